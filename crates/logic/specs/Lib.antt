@@ -1,0 +1,13 @@
+pub mod Heap
+pub mod Formula
+pub mod Holds
+pub mod Numbers
+pub mod Checks
+pub mod Table
+pub mod Tests
+pub mod Truth
+pub mod Reflect
+pub mod Digits
+pub mod Agree
+pub mod Chains
+pub mod TruthHolds

@@ -1,0 +1,55 @@
+-- The numbers given back: document 01's table "Numbers given back", and the answers made of them. This is the one list of
+-- numbers; the constants of the code are named after it. Assumes nothing: these are definitions.
+use Prim.Native.Nat.{ℕ}
+use Rattle.logic.specs.declared.Answer.{Answer}
+
+-- "fits, found, written"
+abbrev pub yes-number : ℕ
+yes-number = 0
+
+-- "doesn't fit; none"
+abbrev pub no-number : ℕ
+no-number = 1
+
+-- "budget spent"
+abbrev pub spent-number : ℕ
+spent-number = 2
+
+-- "book under 11 or over 206 bytes"
+abbrev pub book-length : ℕ
+book-length = 10
+
+-- "contents not as stated"
+abbrev pub contents : ℕ
+contents = 11
+
+-- "bounds body not 3 bytes, or a byte over 6"
+abbrev pub bounds : ℕ
+bounds = 12
+
+-- "formula empty or not a multiple of 3"
+abbrev pub formula-length : ℕ
+formula-length = 13
+
+-- "operator not 1 to 10"
+abbrev pub operator : ℕ
+operator = 14
+
+-- "operand: variable over v, child not lower, b of 8 not 0"
+abbrev pub operand : ℕ
+operand = 15
+
+-- "not a tree"
+abbrev pub tree-shape : ℕ
+tree-shape = 16
+
+-- "model of wrong length; value out of range"
+abbrev pub model-length : ℕ
+model-length = 17
+
+abbrev pub model-value : ℕ
+model-value = 18
+
+-- "Each answer is a number, a place and a tried count (0 outside search)."
+abbrev pub answer : ℕ → ℕ → Answer
+answer m q = record { number = m; place = q; tried = 0 }
