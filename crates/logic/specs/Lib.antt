@@ -11,3 +11,13 @@ pub mod Digits
 pub mod Agree
 pub mod Chains
 pub mod TruthHolds
+pub mod Book
+pub mod CheckLaws
+pub mod Model
+pub mod Computed
+pub mod ComputedLaws
+pub mod ModelLaws
+pub mod TableLaws
+pub mod Entries
+pub mod BookLaws
+pub mod Examples

@@ -1,13 +1,13 @@
 -- A test that says whether a fact holds, and how the tests' connectives follow those of the facts. Assumes nothing.
-use mathlib.Core.Path.{_≡_, refl, sym, subst}
+use mathlib.Core.Path.{_≡_, refl, sym, subst, _∙_}
 use mathlib.Core.Bool.{Bool, true, false, not}
 use mathlib.Core.Logic.{_⊎_, inl, inr, ⊎-elim}
 use Prim.Native.Nat.{ℕ, zero, suc, _<_, _≤_}
 use native.Mathlib.Nat.{not-suc-le-zero, eq-or-lt-of-le, le-of-suc-le-suc}
 use native.Mathlib.Decide.{ℕ-discrete}
 use native.Mathlib.Omega.{arith}
-use lib.Dec.{eqb, leb}
-use borrow.Author.Tests.{eqb-true, eq-eqb, leb-true, le-leb}
+use lib.Dec.{eqb, leb, ltb}
+use borrow.Author.Tests.{eqb-true, eq-eqb, leb-true, le-leb, ltb-true, lt-ltb}
 use Rattle.logic.specs.Tests.{andb, orb, any, all}
 
 pub record Is (b : Bool) (P : Type 0) : Type 0 where
@@ -28,6 +28,9 @@ is-eq m n = record { to = eqb-true m n; from = eq-eqb m n }
 
 pub is-le : (m n : ℕ) → Is (leb m n) (m ≤ n)
 is-le m n = record { to = leb-true m n; from = le-leb m n }
+
+pub is-lt : (m n : ℕ) → Is (ltb m n) (m < n)
+is-lt m n = record { to = ltb-true m n; from = lt-ltb m n }
 
 pub is-and : (a b : Bool) {P Q : Type 0} → Is a P → Is b Q → Is (andb a b) (P × Q)
 is-and true b i j = record { to = λ e. (i .to refl, j .to e); from = λ q. j .from (q .1) }
@@ -57,6 +60,10 @@ module _ (f : ℕ → Bool) (P : ℕ → Type 0) where
       is-iff (is-or (any k f) (f k) (is-any k (λ i l. h i (omega arith))) (h k (omega arith)))
       (⊎-elim (λ q. (q .0, omega (arith, q .1), q .2)) (λ q. (k, omega arith, q)))
       (λ q. ⊎-elim (λ (e : q .0 ≡ k). inr (subst P e (q .2))) (λ (m : q .0 < k). inl (q .0, m, q .2)) (eq-or-lt-of-le (le-of-suc-le-suc (q .1))))
+
+-- where the test does not pass, the fact does not hold
+pub fails : (b : Bool) {P : Type 0} → Is b P → b ≡ false → ¬ P
+fails b i e p = false-true (sym e ∙ i .from p)
 
 -- a fact that a test says is decided
 pub decided : (b : Bool) {P : Type 0} → Is b P → P ⊎ (¬ P)

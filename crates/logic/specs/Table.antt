@@ -15,7 +15,7 @@ abbrev pub opOf : List ℕ → ℕ → ℕ
 opOf f k = getD f (3 * k) 0
 
 abbrev pub operandOf : List ℕ → ℕ → ℕ → ℕ
-operandOf f k side = getD f (3 * k + 1 + side) 0
+operandOf f k side = getD f (3 * k + (1 + side)) 0
 
 -- "each operator's operand kinds": 0 is "zero", 1 "a variable", 2 "a child"
 unfoldable pub kindOf : ℕ → ℕ → ℕ

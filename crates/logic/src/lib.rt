@@ -1,9 +1,31 @@
-// What every call gives back. The definitions that a reader must believe are in specs/; there is no code here.
+// What every call gives back: a number, a place and a tried count. There is no code here; what a reader must believe is in specs/.
 
-// A number, a place and a tried count; the numbers are listed in specs/Numbers.antt.
 #[repr(C)]
 pub struct Answer {
     pub number: u64,
     pub place: u64,
     pub tried: u64,
 }
+
+// The numbers, as specs/Numbers.antt lists them.
+pub const YES: u64 = 0;
+
+pub const NO: u64 = 1;
+
+pub const BOOK_LENGTH: u64 = 10;
+
+pub const CONTENTS: u64 = 11;
+
+pub const BOUNDS: u64 = 12;
+
+pub const FORMULA_LENGTH: u64 = 13;
+
+pub const OPERATOR: u64 = 14;
+
+pub const OPERAND: u64 = 15;
+
+pub const TREE_SHAPE: u64 = 16;
+
+pub const MODEL_LENGTH: u64 = 17;
+
+pub const MODEL_VALUE: u64 = 18;

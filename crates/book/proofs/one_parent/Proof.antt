@@ -1,0 +1,83 @@
+-- `book::one_parent` meets its contract. Assumes nothing.
+use borrow.Author.Needs.{needs}
+use mathlib.Core.Path.{_≡_, _∙_, sym, ap, subst}
+use mathlib.Core.Logic.{inl, inr}
+use Prim.Native.Nat.{ℕ, _-_, _/_, _≤_}
+use native.Mathlib.Numerals.{add-one}
+use native.Mathlib.Omega.{arith}
+use lib.ListN.{length}
+use Rattle.logic.specs.declared.Answer.{Answer}
+use Rattle.logic.specs.Checks.{upto, Passes, Answers}
+use Rattle.logic.specs.CheckLaws.{Yes, passes-none, passes-more, upto-refused, answers-passed}
+use Rattle.logic.specs.Book.{useChecks}
+use Rattle.book.proofs.one_parent.Statement.{statement}
+use Rattle.book.proofs.one_parent.Tie as tie
+
+abbrev Inv-loop : tie.InvT-loop
+Inv-loop f last k₀ k = (k ≤ last) × Passes (upto (useChecks f) k)
+
+abbrev μ-loop : tie.MeasureT-loop
+μ-loop f last k₀ k = last - k
+
+sub-last : tie.Need-sub-last Inv-loop μ-loop
+sub-last c = search needs
+
+loop-holds : tie.Need-loop-holds Inv-loop μ-loop
+loop-holds c = (search needs, passes-none _)
+
+uses-of-requires : tie.Need-uses-of-requires Inv-loop μ-loop
+uses-of-requires c κs = (c .before .before .before .pre .1, c .before .before .before .pre .2)
+
+answer-of-requires : tie.Need-answer-of-requires Inv-loop μ-loop
+answer-of-requires c κs = search needs
+
+returns : tie.Need-returns Inv-loop μ-loop
+unfolding Answers
+returns c =
+    let a = c .before .before .before .before .before .before .args in
+    let refused : ¬ (c .answer-of .result .number ≡ 0) = λ e. omega (arith, ap (λ (r : Answer). r .number) (c .answer-of .ensures), e) in
+    upto-refused (useChecks (a .f .now)) _ (c .before .before .before .before .loop .k) _ (c .before .before .before .loop-test .taken)
+    (c .before .before .before .before .loop .inv .1)
+    (inl (λ h. c .before .if1 .taken (c .before .before .uses-of .ensures ∙ h), c .answer-of .ensures)) refused
+
+add-k : tie.Need-add-k Inv-loop μ-loop
+add-k c = search needs
+
+loop-less : tie.Need-loop-less Inv-loop μ-loop
+loop-less c = search needs
+
+loop-again : tie.Need-loop-again Inv-loop μ-loop
+unfolding Passes
+loop-again c =
+    let a = c .before .before .before .before .before .args in
+    let k = c .before .before .before .loop .k in
+    let used = sym (c .before .uses-of .ensures) ∙ c .if1 .left in
+    (search needs, rw add-one (passes-more (useChecks (a .f .now)) k (c .before .before .before .loop .inv .1) (used, tt)))
+
+answer-of-requires-2 : tie.Need-answer-of-requires-2 Inv-loop μ-loop
+answer-of-requires-2 c κs = search needs
+
+returns-2 : tie.Need-returns-2 Inv-loop μ-loop
+returns-2 c =
+    let a = c .before .before .before .before .args in
+    let l = c .before .before .loop in
+    let end : l .k ≡ length (a .f .now) / 3 - 1 = omega arith in
+    answers-passed (upto (useChecks (a .f .now)) (length (a .f .now) / 3 - 1)) Yes _
+    (subst (λ (k : ℕ). Passes (upto (useChecks (a .f .now)) k)) end (l .inv .1)) (c .answer-of2 .ensures)
+
+pub one-parent-spec : {M : Type 1} → statement M
+one-parent-spec =
+    tie.close
+    (tie.spec
+    Inv-loop
+    μ-loop
+    sub-last
+    loop-holds
+    uses-of-requires
+    answer-of-requires
+    returns
+    add-k
+    loop-less
+    loop-again
+    answer-of-requires-2
+    returns-2)

@@ -1,0 +1,104 @@
+-- `book::read` meets its contract. Assumes nothing.
+use borrow.Author.Needs.{needs}
+use mathlib.Core.Path.{subst⁻¹}
+use native.Mathlib.Omega.{arith}
+use lib.ListN.{getD}
+use Rattle.logic.specs.Numbers.{answer}
+use Rattle.logic.specs.Checks.{Passes}
+use Rattle.logic.specs.Book.{Reads}
+use Rattle.logic.specs.BookLaws.{laid-out, body-short, reads-contents, reads-bodies, reads-nodes, reads-uses, bodies-pass, nodes-pass, nodes-operators}
+use Rattle.book.proofs.read.Statement.{statement}
+use Rattle.book.proofs.read.Tie as tie
+
+contents-requires : tie.Need-contents-requires
+contents-requires c κs = search needs
+
+answer-of-requires : tie.Need-answer-of-requires
+answer-of-requires c κs = search needs
+
+returns : tie.Need-returns
+returns c =
+    let s = c .before .before .before .before .args .book .now in
+    let q = c .before .before .contents in
+    subst⁻¹ (Reads s) (c .answer-of .ensures) (reads-contents s (answer (q .result) 0) (q .ensures) (c .before .if1 .taken))
+
+body-requires : tie.Need-body-requires
+body-requires c κs = search needs
+
+body-requires-2 : tie.Need-body-requires-2
+body-requires-2 c κs = search needs
+
+bodies-requires : tie.Need-bodies-requires
+bodies-requires c κs = search needs
+
+answer-of-requires-2 : tie.Need-answer-of-requires-2
+answer-of-requires-2 c κs = search needs
+
+returns-2 : tie.Need-returns-2
+returns-2 c =
+    let s = c .before .before .before .before .before .before .before .before .args .book .now in
+    let g = laid-out s (c .before .before .before .before .before .before .contents .result) (c .before .before .before .before .before .before .contents .ensures) (c .before .before .before .before .before .if1 .left) in
+    let b = c .before .before .before .before .body .result .now in
+    let f = c .before .before .before .body2 .result .now in
+    let q = c .before .before .bodies in
+    subst⁻¹ (Reads s) (c .answer-of2 .ensures)
+    (reads-bodies s b f g (c .before .before .before .before .body .ensures) (c .before .before .before .body2 .ensures) (answer (q .result) 0) (q .ensures) (c .before .if2 .taken))
+
+shared-slice-read-nodes : tie.Need-shared-slice-read-nodes
+unfolding Passes
+shared-slice-read-nodes c =
+    let b = c .before .before .before .before .body .result .now in
+    let f = c .before .before .before .body2 .result .now in
+    let p = bodies-pass b f (c .before .before .bodies .result) (c .before .before .bodies .ensures) (c .before .if2 .left) in
+    omega (arith, p .0 .three)
+
+nodes-requires : tie.Need-nodes-requires
+nodes-requires c κs = search needs
+
+returns-3 : tie.Need-returns-3
+returns-3 c =
+    let s = c .before .before .before .before .before .before .before .before .before .before .before .args .book .now in
+    let g = laid-out s (c .before .before .before .before .before .before .before .before .before .contents .result) (c .before .before .before .before .before .before .before .before .before .contents .ensures) (c .before .before .before .before .before .before .before .before .if1 .left) in
+    let b = c .before .before .before .before .before .before .before .body .result .now in
+    let f = c .before .before .before .before .before .before .body2 .result .now in
+    let p = bodies-pass b f (c .before .before .before .before .before .bodies .result) (c .before .before .before .before .before .bodies .ensures) (c .before .before .before .before .if2 .left) in
+    reads-nodes s b f g (c .before .before .before .before .before .before .before .body .ensures) (c .before .before .before .before .before .before .body2 .ensures) (c .before .before .nodes .result) p (c .before .before .nodes .ensures) (c .if3 .taken)
+
+one-parent-requires : tie.Need-one-parent-requires
+unfolding Passes
+one-parent-requires c κs =
+    let s = c .before .before .before .before .before .before .before .before .before .before .before .args .book .now in
+    let g = laid-out s (c .before .before .before .before .before .before .before .before .before .contents .result) (c .before .before .before .before .before .before .before .before .before .contents .ensures) (c .before .before .before .before .before .before .before .before .if1 .left) in
+    let b = c .before .before .before .before .before .before .before .body .result .now in
+    let f = c .before .before .before .before .before .before .body2 .result .now in
+    let p = bodies-pass b f (c .before .before .before .before .before .bodies .result) (c .before .before .before .before .before .bodies .ensures) (c .before .before .before .before .if2 .left) in
+    let k = nodes-pass (getD b 0 0) f (c .before .before .nodes .result) (c .before .before .nodes .ensures) (c .if3 .left) in
+    (omega (arith, p .1 .0 .0, p .1 .0 .1), omega (arith, body-short s 1 f g (omega arith) (c .before .before .before .before .before .before .body2 .ensures)), nodes-operators (getD b 0 0) f k)
+
+returns-4 : tie.Need-returns-4
+returns-4 c =
+    let s = c .before .before .before .before .before .before .before .before .before .before .before .before .args .book .now in
+    let g = laid-out s (c .before .before .before .before .before .before .before .before .before .before .contents .result) (c .before .before .before .before .before .before .before .before .before .before .contents .ensures) (c .before .before .before .before .before .before .before .before .before .if1 .left) in
+    let b = c .before .before .before .before .before .before .before .before .body .result .now in
+    let f = c .before .before .before .before .before .before .before .body2 .result .now in
+    let p = bodies-pass b f (c .before .before .before .before .before .before .bodies .result) (c .before .before .before .before .before .before .bodies .ensures) (c .before .before .before .before .before .if2 .left) in
+    let k = nodes-pass (getD b 0 0) f (c .before .before .before .nodes .result) (c .before .before .before .nodes .ensures) (c .before .if3 .left) in
+    reads-uses s b f g (c .before .before .before .before .before .before .before .before .body .ensures) (c .before .before .before .before .before .before .before .body2 .ensures) (c .one-parent .result) p k (c .one-parent .ensures)
+
+pub read-spec : {M : Type 1} → statement M
+read-spec =
+    tie.close
+    (tie.spec
+    contents-requires
+    answer-of-requires
+    returns
+    body-requires
+    body-requires-2
+    bodies-requires
+    answer-of-requires-2
+    returns-2
+    shared-slice-read-nodes
+    nodes-requires
+    returns-3
+    one-parent-requires
+    returns-4)

@@ -1,0 +1,131 @@
+-- The problem book, byte by byte: its contents, its bodies, what an accepted book is, and what the reader answers. Assumes
+-- nothing: these are definitions.
+use mathlib.Core.Path.{_≡_}
+use mathlib.Core.List.{List, []}
+use mathlib.Core.Logic.{_⊎_}
+use Prim.Native.Nat.{ℕ, _+_, _-_, _*_, _/_, _%_, _<_, _≤_}
+use lib.ListN.{length, getD, take, drop}
+use Rattle.logic.specs.declared.Answer.{Answer}
+use Rattle.logic.specs.Numbers.{answer, yes-number, book-length, contents, bounds, formula-length, operator, operand, tree-shape}
+use Rattle.logic.specs.Checks.{Checks, done, check, _then_, upto, Passes, Answers}
+use Rattle.logic.specs.Table.{OperatorOk, OperandsOk, Sound, Tree, uses}
+
+-- the most that v, n and p may be: "each 0 to 6"
+abbrev pub most : ℕ
+most = 6
+
+-- "two bytes, low first"
+abbrev pub word : List ℕ → ℕ → ℕ
+word s i = getD s i 0 + 256 * getD s (i + 1) 0
+
+-- "Each entry has five bytes: kind, offset (two bytes, low first), length (two bytes, low first)." Entry e's row starts at
+-- byte 1 + 5 * e.
+abbrev pub kind : List ℕ → ℕ → ℕ
+kind s e = getD s (1 + 5 * e) 0
+
+abbrev pub offset : List ℕ → ℕ → ℕ
+offset s e = word s (1 + 5 * e + 1)
+
+abbrev pub size : List ℕ → ℕ → ℕ
+size s e = word s (1 + 5 * e + 3)
+
+-- "A book has 11 to 206 bytes."
+abbrev pub LengthOk : List ℕ → Type 0
+LengthOk s = (11 ≤ length s) × (length s ≤ 206)
+
+-- "Byte 0 is the number of entries, 2." "Kind 1 is the bounds, kind 2 the formula, in that order. The first body starts at
+-- byte 11, the second where the first ends, and the second ends with the book."
+pub record ContentsOk (s : List ℕ) : Type 0 where
+  pub entries : getD s 0 0 ≡ 2
+  pub bounds-kind : kind s 0 ≡ 1
+  pub formula-kind : kind s 1 ≡ 2
+  pub first : offset s 0 ≡ 11
+  pub second : offset s 1 ≡ offset s 0 + size s 0
+  pub ends : offset s 1 + size s 1 ≡ length s
+
+-- "The body of an entry is handed back as that stretch of the caller's bytes"
+abbrev pub stretch : List ℕ → ℕ → List ℕ
+stretch s e = take (size s e) (drop (offset s e) s)
+
+-- "Bounds: v, n, p, one byte each, each 0 to 6."
+pub record BoundsOk (b : List ℕ) : Type 0 where
+  pub three : length b ≡ 3
+  pub vars : getD b 0 0 ≤ most
+  pub locs : getD b 1 0 ≤ most
+  pub path : getD b 2 0 ≤ most
+
+abbrev pub varsOf : List ℕ → ℕ
+varsOf s = getD (stretch s 0) 0 0
+
+abbrev pub locsOf : List ℕ → ℕ
+locsOf s = getD (stretch s 0) 1 0
+
+abbrev pub pathOf : List ℕ → ℕ
+pathOf s = getD (stretch s 0) 2 0
+
+-- "Formula: 1 to 64 nodes, three bytes each": "empty or not a multiple of 3" is refused, and a book has no room for more than
+-- 64 nodes
+abbrev pub FormulaOk : List ℕ → Type 0
+FormulaOk f = (0 < length f) × (length f % 3 ≡ 0)
+
+abbrev pub nodes : List ℕ → ℕ
+nodes f = length f / 3
+
+abbrev pub formulaOf : List ℕ → List ℕ
+formulaOf s = stretch s 1
+
+-- "The last node is the root."
+abbrev pub root : List ℕ → ℕ
+root f = nodes f - 1
+
+-- "Order: 10 to 13; then nodes upwards, 14 before 15 at each; 16", "lowest non-root node not used exactly once"
+abbrev pub contentsChecks : List ℕ → Checks
+contentsChecks s = check (LengthOk s) book-length 0 (check (ContentsOk s) contents 0 done)
+
+abbrev pub bodyChecks : List ℕ → List ℕ → Checks
+bodyChecks b f = check (BoundsOk b) bounds 0 (check (FormulaOk f) formula-length 0 done)
+
+abbrev pub nodeChecks : ℕ → List ℕ → ℕ → Checks
+nodeChecks v f k = check (OperatorOk f k) operator k (check (OperandsOk v f k) operand k done)
+
+abbrev pub useChecks : List ℕ → ℕ → Checks
+useChecks f k = check (uses f (nodes f) k ≡ 1) tree-shape k done
+
+abbrev pub tableChecks : ℕ → List ℕ → Checks
+tableChecks v f = upto (nodeChecks v f) (nodes f) then upto (useChecks f) (root f)
+
+abbrev pub bookChecks : List ℕ → Checks
+bookChecks s = contentsChecks s then (bodyChecks (stretch s 0) (formulaOf s) then tableChecks (varsOf s) (formulaOf s))
+
+-- what `read` gives back for the book s: number 0, or the refusal of the first part that fails
+unfoldable pub Reads : List ℕ → Answer → Type 0
+Reads s a = Answers (bookChecks s) (λ r. r ≡ answer yes-number 0) a
+
+-- the book is as document 01 says, in every part
+unfoldable pub Accepted : List ℕ → Type 0
+Accepted s = Passes (bookChecks s)
+
+-- the book is not refused before 12
+abbrev pub LaidOut : List ℕ → Type 0
+LaidOut s = LengthOk s × ContentsOk s
+
+-- what an accepted book gives its users, and all that they need
+pub record Whole (s : List ℕ) : Type 0 where
+  pub laid : LaidOut s
+  pub bounds : BoundsOk (stretch s 0)
+  pub some : 0 < nodes (formulaOf s)
+  pub few : nodes (formulaOf s) ≤ 64
+  pub bytes : length (formulaOf s) ≡ 3 * nodes (formulaOf s)
+  pub sound : Sound (varsOf s) (formulaOf s) (nodes (formulaOf s))
+  pub tree : Tree (formulaOf s) (nodes (formulaOf s))
+
+-- what `body` hands back: "an empty one if the book is refused before 12, or for an entry other than 0 or 1"
+abbrev pub Given : List ℕ → ℕ → Type 0
+Given s e = LaidOut s × (e ≤ 1)
+
+unfoldable pub Body : List ℕ → ℕ → List ℕ → Type 0
+Body s e r = (Given s e × (r ≡ stretch s e)) ⊎ ((¬ Given s e) × (r ≡ []))
+
+-- the same by its place: where it starts in the book and how long it is
+unfoldable pub Placed : List ℕ → ℕ → ℕ → ℕ → Type 0
+Placed s e start len = (Given s e × ((start ≡ offset s e) × (len ≡ size s e))) ⊎ ((¬ Given s e) × ((start ≡ 0) × (len ≡ 0)))

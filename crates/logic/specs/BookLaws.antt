@@ -1,0 +1,192 @@
+-- What the reader's statements give: the stretch of a body lies in the book, one answer at most, and what an accepted book is.
+-- Assumes nothing.
+use mathlib.Core.Path.{_≡_, refl, sym, _∙_, ap, ap₂, subst₂}
+use mathlib.Core.List.{List, []}
+use mathlib.Core.Logic.{_⊎_, inl, inr, ⊎-elim}
+use Prim.Native.Nat.{ℕ, zero, suc, zero-le, pred, _+_, _-_, _*_, _/_, _%_, _<_, _≤_}
+use native.Mathlib.Nat.{not-suc-le-zero, eq-or-lt-of-le, le-of-suc-le-suc}
+use native.Mathlib.Omega.{arith}
+use lib.ListN.{length, getD, take, drop, length-take, length-drop}
+use Rattle.logic.specs.declared.Answer.{Answer}
+use Rattle.logic.specs.Numbers.{answer}
+use Rattle.logic.specs.Checks.{Checks, done, check, _then_, upto, Passes, Answers}
+use Rattle.logic.specs.CheckLaws.{Single, Yes, Refuses, answers-single, yes-single, passes-of-yes, fails-of-refused, then-passes, passes-at, answers-refused, answers-after, refuses-then, refuses-upto}
+use Rattle.logic.specs.Table.{OperatorOk}
+use Rattle.logic.specs.Book.{most, offset, size, stretch, LengthOk, ContentsOk, BoundsOk, FormulaOk, LaidOut, Given, varsOf, locsOf, pathOf, formulaOf, nodes, root, contentsChecks, bodyChecks, nodeChecks, useChecks, tableChecks, bookChecks, Reads, Accepted, Whole, Body, Placed}
+
+-- two answers that the reader's statement allows are equal, and so are two bodies and two places
+pub reads-single : (s : List ℕ) → Single (Reads s)
+unfolding Reads
+reads-single s = answers-single (bookChecks s) Yes yes-single
+
+pub body-single : (s : List ℕ) (e : ℕ) (a b : List ℕ) → Body s e a → Body s e b → a ≡ b
+unfolding Body
+body-single s e a b p q =
+    ⊎-elim (λ x. ⊎-elim (λ y. x .1 ∙ sym (y .1)) (λ y. absurd (y .0 (x .0))) q)
+    (λ x. ⊎-elim (λ y. absurd (x .0 (y .0))) (λ y. x .1 ∙ sym (y .1)) q) p
+
+pub placed-single : (s : List ℕ) (e a i b j : ℕ) → Placed s e a i → Placed s e b j → (a ≡ b) × (i ≡ j)
+unfolding Placed
+placed-single s e a i b j p q =
+    ⊎-elim (λ x. ⊎-elim (λ y. (x .1 .0 ∙ sym (y .1 .0), x .1 .1 ∙ sym (y .1 .1))) (λ y. absurd (y .0 (x .0))) q)
+    (λ x. ⊎-elim (λ y. absurd (x .0 (y .0))) (λ y. (x .1 .0 ∙ sym (y .1 .0), x .1 .1 ∙ sym (y .1 .1))) q) p
+
+contents-refuses : (s : List ℕ) → Refuses (contentsChecks s)
+unfolding Refuses
+contents-refuses s = (omega arith, (omega arith, tt))
+
+pub body-refuses : (b f : List ℕ) → Refuses (bodyChecks b f)
+unfolding Refuses
+body-refuses b f = (omega arith, (omega arith, tt))
+
+pub node-refuses : (v : ℕ) (f : List ℕ) (k : ℕ) → Refuses (nodeChecks v f k)
+unfolding Refuses
+node-refuses v f k = (omega arith, (omega arith, tt))
+
+pub use-refuses : (f : List ℕ) (k : ℕ) → Refuses (useChecks f k)
+unfolding Refuses
+use-refuses f k = (omega arith, tt)
+
+-- number 0 of the contents, and any other
+pub laid-out : (s : List ℕ) (r : ℕ) → Answers (contentsChecks s) Yes (answer r 0) → r ≡ 0 → LaidOut s
+unfolding Passes
+laid-out s r q e = let p = passes-of-yes (contentsChecks s) (answer r 0) (contents-refuses s) q e in (p .0, p .1 .0)
+
+pub not-laid-out : (s : List ℕ) (r : ℕ) → Answers (contentsChecks s) Yes (answer r 0) → ¬ (r ≡ 0) → ¬ LaidOut s
+unfolding Passes
+not-laid-out s r q f p = fails-of-refused (contentsChecks s) (answer r 0) q f (p .0, (p .1, tt))
+
+-- the stretch lies in the book
+pub stretch-fits : (s : List ℕ) (e : ℕ) → Given s e → offset s e + size s e ≤ length s
+stretch-fits s e g = go e (g .1)
+  where
+    go : (e : ℕ) → e ≤ 1 → offset s e + size s e ≤ length s
+    go zero l = omega (arith, g .0 .1 .second, g .0 .1 .ends)
+    go (suc zero) l = omega (arith, g .0 .1 .ends)
+    go (suc (suc e)) l = absurd (omega arith)
+
+pub placed-fits : (s : List ℕ) (e start len : ℕ) → Placed s e start len → start + len ≤ length s
+unfolding Placed
+placed-fits s e start len q =
+    ⊎-elim (λ x. let h = stretch-fits s e (x .0) in omega (arith, x .1 .0, x .1 .1)) (λ x. omega (arith, x .1 .0, x .1 .1)) q
+
+pub stretch-length : (s : List ℕ) (e : ℕ) → Given s e → length (stretch s e) ≡ size s e
+stretch-length s e g = let h = stretch-fits s e g in rw (length-take, length-drop) (omega arith)
+
+take-none : (s : List ℕ) (k : ℕ) → k ≡ 0 → take k s ≡ []
+take-none s zero e = refl
+take-none s (suc k) e = absurd (omega arith)
+
+-- the stretch between two places of the book is the body
+pub placed-body : (s : List ℕ) (e start len : ℕ) → Placed s e start len → Body s e (take (start + len - start) (drop start s))
+unfolding Placed Body
+placed-body s e start len q = rw n (⊎-elim given none q)
+  where
+    n : start + len - start ≡ len
+    n = omega arith
+
+    given : Given s e × ((start ≡ offset s e) × (len ≡ size s e)) → Body s e (take len (drop start s))
+    given x = inl (x .0, ap₂ (λ (k i : ℕ). take k (drop i s)) (x .1 .1) (x .1 .0))
+
+    none : (¬ Given s e) × ((start ≡ 0) × (len ≡ 0)) → Body s e (take len (drop start s))
+    none x = inr (x .0, take-none (drop start s) len (x .1 .1))
+
+pub body-given : (s : List ℕ) (e : ℕ) (r : List ℕ) → Body s e r → Given s e → r ≡ stretch s e
+unfolding Body
+body-given s e r q g = ⊎-elim (λ x. x .1) (λ x. absurd (x .0 g)) q
+
+-- a body is no longer than the book
+pub body-short : (s : List ℕ) (e : ℕ) (r : List ℕ) → LaidOut s → e ≤ 1 → Body s e r → length r ≤ 206
+body-short s e r g l q =
+    let h = stretch-fits s e (g, l) in
+    omega (arith, ap length (body-given s e r q (g, l)), stretch-length s e (g, l), g .0 .1)
+
+-- ---- an accepted book
+
+book-refuses : (s : List ℕ) → Refuses (bookChecks s)
+book-refuses s =
+    refuses-then (contentsChecks s) (bodyChecks (stretch s 0) (formulaOf s) then tableChecks (varsOf s) (formulaOf s)) (contents-refuses s)
+    (refuses-then (bodyChecks (stretch s 0) (formulaOf s)) (tableChecks (varsOf s) (formulaOf s)) (body-refuses (stretch s 0) (formulaOf s))
+    (refuses-then (upto (nodeChecks (varsOf s) (formulaOf s)) (nodes (formulaOf s))) (upto (useChecks (formulaOf s)) (root (formulaOf s)))
+    (refuses-upto (nodeChecks (varsOf s) (formulaOf s)) (node-refuses (varsOf s) (formulaOf s)) (nodes (formulaOf s)))
+    (refuses-upto (useChecks (formulaOf s)) (use-refuses (formulaOf s)) (root (formulaOf s)))))
+
+-- "number 0 exactly if all parts hold"
+pub reads-yes : (s : List ℕ) (a : Answer) → Reads s a → a .number ≡ 0 → Accepted s
+unfolding Reads Accepted
+reads-yes s a q e = passes-of-yes (bookChecks s) a (book-refuses s) q e
+
+pub reads-no : (s : List ℕ) (a : Answer) → Reads s a → ¬ (a .number ≡ 0) → ¬ Accepted s
+unfolding Reads Accepted
+reads-no s a q f = fails-of-refused (bookChecks s) a q f
+
+module _ (s : List ℕ) (ok : Accepted s) where
+  parts : Passes (contentsChecks s) × (Passes (bodyChecks (stretch s 0) (formulaOf s)) × (Passes (upto (nodeChecks (varsOf s) (formulaOf s)) (nodes (formulaOf s))) × Passes (upto (useChecks (formulaOf s)) (root (formulaOf s)))))
+  unfolding Accepted
+  parts =
+      let a = then-passes (contentsChecks s) (bodyChecks (stretch s 0) (formulaOf s) then tableChecks (varsOf s) (formulaOf s)) ok in
+      let b = then-passes (bodyChecks (stretch s 0) (formulaOf s)) (tableChecks (varsOf s) (formulaOf s)) (a .1) in
+      (a .0, (b .0, then-passes (upto (nodeChecks (varsOf s) (formulaOf s)) (nodes (formulaOf s))) (upto (useChecks (formulaOf s)) (root (formulaOf s))) (b .1)))
+
+  pub accepted-whole : Whole s
+  unfolding Passes
+  accepted-whole =
+      let laid′ : LaidOut s = (parts .0 .0, parts .0 .1 .0) in
+      let b = parts .1 .0 .0 in
+      let f = parts .1 .0 .1 .0 in
+      let fits : length (formulaOf s) ≤ 192 = short (stretch-fits s 1 (laid′, omega arith)) in
+      record {
+        laid = laid′;
+        bounds = b;
+        some = omega (arith, f .0, f .1);
+        few = omega arith;
+        bytes = omega (arith, f .1);
+        sound = λ k l. let q = passes-at (nodeChecks (varsOf s) (formulaOf s)) (nodes (formulaOf s)) (parts .1 .1 .0) k l in record { operator = q .0; operands = q .1 .0 };
+        tree = λ k l. passes-at (useChecks (formulaOf s)) (root (formulaOf s)) (parts .1 .1 .1) k (omega arith) .0;
+      }
+    where
+      short : offset s 1 + size s 1 ≤ length s → length (formulaOf s) ≤ 192
+      short h = rw (length-take, length-drop) (omega (arith, parts .0 .0 .1, parts .0 .1 .0 .first, parts .0 .1 .0 .second, bounds-three))
+        where
+          bounds-three : size s 0 ≡ 3
+          bounds-three = sym (stretch-length s 0 ((parts .0 .0, parts .0 .1 .0), omega arith)) ∙ parts .1 .0 .0 .three
+
+-- ---- the reader's answer, from the answers of its four steps
+
+pub reads-contents : (s : List ℕ) (a : Answer) → Answers (contentsChecks s) Yes a → ¬ (a .number ≡ 0) → Reads s a
+unfolding Reads
+reads-contents s a q f =
+    answers-refused (contentsChecks s) Yes (bodyChecks (stretch s 0) (formulaOf s) then tableChecks (varsOf s) (formulaOf s)) a q f
+
+-- b and f are the bodies that `body` hands back
+module _ (s b f : List ℕ) (g : LaidOut s) (qb : Body s 0 b) (qf : Body s 1 f) where
+  -- what the bodies and the table answer is what the book answers
+  bodies-after : (a : Answer) → Answers (bodyChecks b f then tableChecks (getD b 0 0) f) Yes a → Reads s a
+  unfolding Reads Passes
+  bodies-after a q =
+      answers-after (contentsChecks s) (bodyChecks (stretch s 0) (formulaOf s) then tableChecks (varsOf s) (formulaOf s)) Yes a (g .0, (g .1, tt))
+      (subst₂ (λ (x y : List ℕ). Answers (bodyChecks x y then tableChecks (getD x 0 0) y) Yes a)
+      (body-given s 0 b qb (g, omega arith)) (body-given s 1 f qf (g, omega arith)) q)
+
+  pub reads-bodies : (a : Answer) → Answers (bodyChecks b f) Yes a → ¬ (a .number ≡ 0) → Reads s a
+  reads-bodies a q w = bodies-after a (answers-refused (bodyChecks b f) Yes (tableChecks (getD b 0 0) f) a q w)
+
+  table-after : (a : Answer) → Passes (bodyChecks b f) → Answers (tableChecks (getD b 0 0) f) Yes a → Reads s a
+  table-after a p q = bodies-after a (answers-after (bodyChecks b f) (tableChecks (getD b 0 0) f) Yes a p q)
+
+  pub reads-nodes : (a : Answer) → Passes (bodyChecks b f) → Answers (upto (nodeChecks (getD b 0 0) f) (nodes f)) Yes a → ¬ (a .number ≡ 0) → Reads s a
+  reads-nodes a p q w = table-after a p (answers-refused (upto (nodeChecks (getD b 0 0) f) (nodes f)) Yes (upto (useChecks f) (root f)) a q w)
+
+  pub reads-uses : (a : Answer) → Passes (bodyChecks b f) → Passes (upto (nodeChecks (getD b 0 0) f) (nodes f)) → Answers (upto (useChecks f) (root f)) Yes a → Reads s a
+  reads-uses a p k q = table-after a p (answers-after (upto (nodeChecks (getD b 0 0) f) (nodes f)) (upto (useChecks f) (root f)) Yes a k q)
+
+-- number 0 of the bodies and of the nodes
+pub bodies-pass : (b f : List ℕ) (r : ℕ) → Answers (bodyChecks b f) Yes (answer r 0) → r ≡ 0 → Passes (bodyChecks b f)
+bodies-pass b f r q e = passes-of-yes (bodyChecks b f) (answer r 0) (body-refuses b f) q e
+
+pub nodes-pass : (v : ℕ) (f : List ℕ) (a : Answer) → Answers (upto (nodeChecks v f) (nodes f)) Yes a → a .number ≡ 0 → Passes (upto (nodeChecks v f) (nodes f))
+nodes-pass v f a q e = passes-of-yes (upto (nodeChecks v f) (nodes f)) a (refuses-upto (nodeChecks v f) (node-refuses v f) (nodes f)) q e
+
+pub nodes-operators : (v : ℕ) (f : List ℕ) → Passes (upto (nodeChecks v f) (nodes f)) → (k : ℕ) → k < nodes f → OperatorOk f k
+unfolding Passes
+nodes-operators v f p k l = passes-at (nodeChecks v f) (nodes f) p k l .0

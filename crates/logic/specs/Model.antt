@@ -1,0 +1,60 @@
+-- A model's bytes, the stack and the heap in them, when a model fits, and what the model judge answers. Assumes nothing: these
+-- are definitions.
+use mathlib.Core.Path.{_≡_}
+use mathlib.Core.List.{List}
+use mathlib.Core.Logic.{_⊎_}
+use Prim.Native.Nat.{ℕ, zero, suc, _+_, _<_, _≤_}
+use lib.Dec.{eqb, ltb}
+use lib.ListN.{length, getD}
+use Rattle.logic.specs.declared.Answer.{Answer}
+use Rattle.logic.specs.Numbers.{answer, yes-number, no-number, model-length, model-value}
+use Rattle.logic.specs.Checks.{Checks, done, check, _then_, upto, Answers}
+use Rattle.logic.specs.Heap.{Map}
+use Rattle.logic.specs.Formula.{Form}
+use Rattle.logic.specs.Holds.{Holds}
+use Rattle.logic.specs.Tests.{pick}
+use Rattle.logic.specs.Table.{tree}
+use Rattle.logic.specs.Book.{bookChecks, varsOf, locsOf, pathOf, formulaOf, root}
+
+-- "A model is v bytes (each variable's location, 0 to n)"
+unfoldable pub stackIn : ℕ → List ℕ → Map
+stackIn v m zero = 0
+stackIn v m (suc i) = pick (ltb i v) (getD m i 0) 0
+
+-- "the value 0 to n, or 255 for unallocated", as a digit
+abbrev pub digitOf : ℕ → ℕ
+digitOf x = pick (eqb x 255) 0 (suc x)
+
+-- "and then n bytes (for locations 1 to n ..). Nil is never allocated."
+unfoldable pub heapIn : ℕ → ℕ → List ℕ → Map
+heapIn v n m zero = 0
+heapIn v n m (suc i) = pick (ltb i n) (digitOf (getD m (v + i) 0)) 0
+
+-- byte i of a model is in range: a location, or from byte v on a location or 255
+abbrev pub ByteOk : ℕ → ℕ → List ℕ → ℕ → Type 0
+ByteOk v n m i = (getD m i 0 ≤ n) ⊎ ((v ≤ i) × (getD m i 0 ≡ 255))
+
+-- "17, 18: model of wrong length; value out of range", at its "first such byte"
+abbrev pub modelChecks : ℕ → ℕ → List ℕ → Checks
+modelChecks v n m = check (length m ≡ v + n) model-length 0 (upto (λ i. check (ByteOk v n m i) model-value i done) (v + n))
+
+-- a model fits a formula: its root holds. A model's fit has a name of its own, apart from a node's truth
+abbrev pub Fits : ℕ → ℕ → ℕ → Form → Map → Map → Type 0
+Fits v n p F s h = Holds v n p F s h
+
+-- the model m fits the book s
+abbrev pub FitsBook : List ℕ → List ℕ → Type 0
+FitsBook s m =
+    Fits (varsOf s) (locsOf s) (pathOf s) (tree (formulaOf s) (root (formulaOf s))) (stackIn (varsOf s) m) (heapIn (varsOf s) (locsOf s) m)
+
+-- "Order: 10 to 13; then nodes upwards, ..; 16; then 17, 18 (model)"
+abbrev pub judgeChecks : List ℕ → List ℕ → Checks
+judgeChecks s m = bookChecks s then modelChecks (varsOf s) (locsOf s) m
+
+-- "0: fits"; "1: doesn't fit"
+abbrev pub Verdict : Type 0 → Answer → Type 0
+Verdict P a = (P × (a ≡ answer yes-number 0)) ⊎ ((¬ P) × (a ≡ answer no-number 0))
+
+-- what the model judge gives back for the book s and the model m
+unfoldable pub Judges : List ℕ → List ℕ → Answer → Type 0
+Judges s m a = Answers (judgeChecks s m) (Verdict (FitsBook s m)) a
