@@ -1,4 +1,6 @@
-// The reader of problem books: the stretch of a body, and whether the book is as it should be. Any bytes at all are read.
+// The reader of problem books: whether a book is as it should be. Any bytes at all are read.
+use contents::body;
+use contents::wide;
 use logic::Answer;
 ghost use mathlib.Core.Path.{_≡_};
 ghost use Prim.Native.Nat.{ℕ, suc, _+_, _*_, _<_, _≤_, _/_};
@@ -8,7 +10,7 @@ ghost use Rattle.logic.specs.Checks.{Answers, upto};
 ghost use Rattle.logic.specs.CheckLaws.{Yes};
 ghost use Rattle.logic.specs.Reflect.{Is};
 ghost use Rattle.logic.specs.Table.{opOf, kindOf, Operand, OperatorOk, OperandOk, uses, usesOn};
-ghost use Rattle.logic.specs.Book.{word, LaidOut, stretch, contentsChecks, bodyChecks, nodeChecks, useChecks, tableChecks, nodes as nodesIn, root, Reads, Body, Placed};
+ghost use Rattle.logic.specs.Book.{bodyChecks, nodeChecks, useChecks, nodes as nodesIn, root, Reads};
 
 // What the operands a and b of operators 1 to 10 are: 0 zero, 1 a variable, 2 a child.
 const KINDS: [[u8; 2]; 10] = [
@@ -26,94 +28,6 @@ const KINDS: [[u8; 2]; 10] = [
 
 // The most that v, n and p may be.
 const MOST: u8 = 6;
-
-// Where a body stands in the book.
-#[repr(C)]
-pub struct Stretch {
-    pub start: u64,
-    pub length: u64,
-}
-
-fn wide(x: u8) -> usize
-    ensures { λ r. ⌜ (r ≡ x) × (r < 256) ⌝ }
-{
-    x as usize
-}
-
-// Two bytes, low first.
-fn word_at(s: &[u8], i: usize) -> usize
-    requires { ⌜ i + 1 < length (now s) ⌝ }
-    ensures { λ r. ⌜ (r ≡ word (now (s .entry)) i) × (r < 65536) ⌝ }
-{
-    wide(s[i]) + 256 * wide(s[i + 1])
-}
-
-// 0 where the contents are as stated, or the number that refuses them.
-fn contents(book: &[u8]) -> u64
-    ensures { λ r. ⌜ Answers (contentsChecks (now (book .entry))) Yes (answer r 0) ⌝ }
-{
-    if book.len() < 11 {
-        return logic::BOOK_LENGTH;
-    }
-    if 206 < book.len() {
-        return logic::BOOK_LENGTH;
-    }
-    if book[0] != 2 {
-        return logic::CONTENTS;
-    }
-    if book[1] != 1 {
-        return logic::CONTENTS;
-    }
-    if book[6] != 2 {
-        return logic::CONTENTS;
-    }
-    let first = word_at(book, 2);
-    if first != 11 {
-        return logic::CONTENTS;
-    }
-    let second = word_at(book, 7);
-    if second != first + word_at(book, 4) {
-        return logic::CONTENTS;
-    }
-    if second + word_at(book, 9) != book.len() {
-        return logic::CONTENTS;
-    }
-    logic::YES
-}
-
-// The stretch of an entry's body; start 0 and length 0 where there is none.
-pub fn placed(book: &[u8], entry: u64) -> Stretch
-    ensures { λ r. ⌜ Placed (now (book .entry)) entry (r .start) (r .length) ⌝ }
-{
-    if contents(book) != logic::YES {
-        return Stretch {
-            start: 0,
-            length: 0,
-        };
-    }
-    if 1 < entry {
-        return Stretch {
-            start: 0,
-            length: 0,
-        };
-    }
-    let row = 1 + 5 * (entry as usize);
-    Stretch {
-        start: word_at(book, row + 1) as u64,
-        length: word_at(book, row + 3) as u64,
-    }
-}
-
-// The body of an entry, as that stretch of the caller's bytes; an empty one where there is none.
-pub fn body(book: &[u8], entry: u64) -> &[u8]
-    ensures { λ r. ⌜ Body (now (book .entry)) entry (now r) ⌝ }
-{
-    let at = placed(book, entry);
-    let start = at.start as usize;
-    let length = at.length as usize;
-    let end = start + length;
-    &book[start..end]
-}
 
 // Whether the bounds and the formula have the right lengths, and the bounds are in range.
 fn bodies(b: &[u8], f: &[u8]) -> u64
@@ -261,12 +175,13 @@ fn one_parent(f: &[u8]) -> Answer
     ensures { λ r. ⌜ Answers (upto (useChecks (now (f .entry))) (root (now (f .entry)))) Yes r ⌝ }
 {
     let last = f.len() / 3 - 1;
-    let mut k: usize = 0;
-    while k < last {
+    let mut left = last;
+    while 0 < left {
+        let k = last - left;
         if uses_of(f, k) != 1 {
             return answer_of(logic::TREE_SHAPE, k);
         }
-        k += 1;
+        left -= 1;
     }
     answer_of(logic::YES, 0)
 }
@@ -275,7 +190,7 @@ fn one_parent(f: &[u8]) -> Answer
 pub fn read(book: &[u8]) -> Answer
     ensures { λ r. ⌜ Reads (now (book .entry)) r ⌝ }
 {
-    let first = contents(book);
+    let first = contents::number(book);
     if first != logic::YES {
         return answer_of(first, 0);
     }

@@ -70,6 +70,11 @@ unfolding Placed
 placed-fits s e start len q =
     ⊎-elim (λ x. let h = stretch-fits s e (x .0) in omega (arith, x .1 .0, x .1 .1)) (λ x. omega (arith, x .1 .0, x .1 .1)) q
 
+pub placed-short : (s : List ℕ) (e start len : ℕ) → Placed s e start len → start + len ≤ 206
+unfolding Placed
+placed-short s e start len q =
+    ⊎-elim (λ x. let h = stretch-fits s e (x .0) in omega (arith, x .1 .0, x .1 .1, x .0 .0 .0 .1)) (λ x. omega (arith, x .1 .0, x .1 .1)) q
+
 pub stretch-length : (s : List ℕ) (e : ℕ) → Given s e → length (stretch s e) ≡ size s e
 stretch-length s e g = let h = stretch-fits s e g in rw (length-take, length-drop) (omega arith)
 

@@ -79,7 +79,7 @@ module _ (v n : ℕ) (m : List ℕ) (ok : Passes (modelChecks v n m)) where
 pub is-fits : (s m : List ℕ) → Passes (modelChecks (varsOf s) (locsOf s) m) → Is (fitsBook s m) (FitsBook s m)
 unfolding fitsBook
 is-fits s m ok =
-    truth-holds (varsOf s) (locsOf s) (pathOf s) (stackIn (varsOf s) m) (model-stack (varsOf s) (locsOf s) m ok)
+    truth-holds (varsOf s) (locsOf s) (pathOf s) (stackIn (varsOf s) m) (model-stack (varsOf s) (locsOf s) m ok .low)
     (tree (formulaOf s) (root (formulaOf s))) (heapIn (varsOf s) (locsOf s) m) (model-heap (varsOf s) (locsOf s) m ok)
 
 verdict-single : (P : Type 0) → Single (Verdict P)

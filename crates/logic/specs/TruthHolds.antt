@@ -1,8 +1,9 @@
--- The computed truth is true exactly where the declarative one holds. Assumes nothing.
+-- The computed truth is true exactly where the declarative one holds, for every formula, stack and heap in range. Assumes
+-- nothing.
 use mathlib.Core.Bool.{not}
-use Prim.Native.Nat.{ℕ}
+use Prim.Native.Nat.{ℕ, _≤_}
 use lib.Dec.{eqb}
-use Rattle.logic.specs.Heap.{Map, Heap, Stack}
+use Rattle.logic.specs.Heap.{Map, Heap}
 use Rattle.logic.specs.Formula.{Form}
 use Rattle.logic.specs.Formula.Form.{same, diff, pts, ls, conj, disj, but, neg, sep, sept}
 use Rattle.logic.specs.Holds.{Holds}
@@ -12,12 +13,12 @@ use Rattle.logic.specs.Reflect.{Is, is-eq, is-and, is-or, is-not}
 use Rattle.logic.specs.Agree.{is-empty, is-points, is-sep, is-sept}
 use Rattle.logic.specs.Chains.{is-segment}
 
-module _ (v n p : ℕ) (s : Map) (ks : Stack v n s) where
+module _ (v n p : ℕ) (s : Map) (low : (x : ℕ) → s x ≤ n) where
   pub truth-holds : (F : Form) (h : Map) → Heap n h → Is (truth v n p F s h) (Holds v n p F s h)
   unfolding truth Holds
   truth-holds (same x y) h k = is-and (eqb (s x) (s y)) (empty n h) (is-eq (s x) (s y)) (is-empty n h k)
   truth-holds (diff x y) h k = is-and (not (eqb (s x) (s y))) (empty n h) (is-not (eqb (s x) (s y)) (is-eq (s x) (s y))) (is-empty n h k)
-  truth-holds (pts x y) h k = is-points n (s x) (s y) h (ks .low x) k
+  truth-holds (pts x y) h k = is-points n (s x) (s y) h (low x) k
   truth-holds (ls x y) h k = is-segment n p (s x) (s y) h k
   truth-holds (conj a b) h k = is-and (truth v n p a s h) (truth v n p b s h) (truth-holds a h k) (truth-holds b h k)
   truth-holds (disj a b) h k = is-or (truth v n p a s h) (truth v n p b s h) (truth-holds a h k) (truth-holds b h k)

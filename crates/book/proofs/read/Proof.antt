@@ -10,8 +10,8 @@ use Rattle.logic.specs.BookLaws.{laid-out, body-short, reads-contents, reads-bo
 use Rattle.book.proofs.read.Statement.{statement}
 use Rattle.book.proofs.read.Tie as tie
 
-contents-requires : tie.Need-contents-requires
-contents-requires c κs = search needs
+number-requires : tie.Need-number-requires
+number-requires c κs = search needs
 
 answer-of-requires : tie.Need-answer-of-requires
 answer-of-requires c κs = search needs
@@ -19,7 +19,7 @@ answer-of-requires c κs = search needs
 returns : tie.Need-returns
 returns c =
     let s = c .before .before .before .before .args .book .now in
-    let q = c .before .before .contents in
+    let q = c .before .before .number in
     subst⁻¹ (Reads s) (c .answer-of .ensures) (reads-contents s (answer (q .result) 0) (q .ensures) (c .before .if1 .taken))
 
 body-requires : tie.Need-body-requires
@@ -37,7 +37,7 @@ answer-of-requires-2 c κs = search needs
 returns-2 : tie.Need-returns-2
 returns-2 c =
     let s = c .before .before .before .before .before .before .before .before .args .book .now in
-    let g = laid-out s (c .before .before .before .before .before .before .contents .result) (c .before .before .before .before .before .before .contents .ensures) (c .before .before .before .before .before .if1 .left) in
+    let g = laid-out s (c .before .before .before .before .before .before .number .result) (c .before .before .before .before .before .before .number .ensures) (c .before .before .before .before .before .if1 .left) in
     let b = c .before .before .before .before .body .result .now in
     let f = c .before .before .before .body2 .result .now in
     let q = c .before .before .bodies in
@@ -58,7 +58,7 @@ nodes-requires c κs = search needs
 returns-3 : tie.Need-returns-3
 returns-3 c =
     let s = c .before .before .before .before .before .before .before .before .before .before .before .args .book .now in
-    let g = laid-out s (c .before .before .before .before .before .before .before .before .before .contents .result) (c .before .before .before .before .before .before .before .before .before .contents .ensures) (c .before .before .before .before .before .before .before .before .if1 .left) in
+    let g = laid-out s (c .before .before .before .before .before .before .before .before .before .number .result) (c .before .before .before .before .before .before .before .before .before .number .ensures) (c .before .before .before .before .before .before .before .before .if1 .left) in
     let b = c .before .before .before .before .before .before .before .body .result .now in
     let f = c .before .before .before .before .before .before .body2 .result .now in
     let p = bodies-pass b f (c .before .before .before .before .before .bodies .result) (c .before .before .before .before .before .bodies .ensures) (c .before .before .before .before .if2 .left) in
@@ -68,7 +68,7 @@ one-parent-requires : tie.Need-one-parent-requires
 unfolding Passes
 one-parent-requires c κs =
     let s = c .before .before .before .before .before .before .before .before .before .before .before .args .book .now in
-    let g = laid-out s (c .before .before .before .before .before .before .before .before .before .contents .result) (c .before .before .before .before .before .before .before .before .before .contents .ensures) (c .before .before .before .before .before .before .before .before .if1 .left) in
+    let g = laid-out s (c .before .before .before .before .before .before .before .before .before .number .result) (c .before .before .before .before .before .before .before .before .before .number .ensures) (c .before .before .before .before .before .before .before .before .if1 .left) in
     let b = c .before .before .before .before .before .before .before .body .result .now in
     let f = c .before .before .before .before .before .before .body2 .result .now in
     let p = bodies-pass b f (c .before .before .before .before .before .bodies .result) (c .before .before .before .before .before .bodies .ensures) (c .before .before .before .before .if2 .left) in
@@ -78,7 +78,7 @@ one-parent-requires c κs =
 returns-4 : tie.Need-returns-4
 returns-4 c =
     let s = c .before .before .before .before .before .before .before .before .before .before .before .before .args .book .now in
-    let g = laid-out s (c .before .before .before .before .before .before .before .before .before .before .contents .result) (c .before .before .before .before .before .before .before .before .before .before .contents .ensures) (c .before .before .before .before .before .before .before .before .before .if1 .left) in
+    let g = laid-out s (c .before .before .before .before .before .before .before .before .before .before .number .result) (c .before .before .before .before .before .before .before .before .before .before .number .ensures) (c .before .before .before .before .before .before .before .before .before .if1 .left) in
     let b = c .before .before .before .before .before .before .before .before .body .result .now in
     let f = c .before .before .before .before .before .before .before .body2 .result .now in
     let p = bodies-pass b f (c .before .before .before .before .before .before .bodies .result) (c .before .before .before .before .before .before .bodies .ensures) (c .before .before .before .before .before .if2 .left) in
@@ -89,7 +89,7 @@ pub read-spec : {M : Type 1} → statement M
 read-spec =
     tie.close
     (tie.spec
-    contents-requires
+    number-requires
     answer-of-requires
     returns
     body-requires

@@ -1,12 +1,12 @@
--- `book::contents` meets its contract. Assumes nothing.
+-- `contents::number` meets its contract. Assumes nothing.
 use borrow.Author.Needs.{needs}
 use mathlib.Core.Path.{refl}
 use mathlib.Core.Logic.{inl, inr}
 use native.Mathlib.Omega.{arith}
 use Rattle.logic.specs.Checks.{Answers}
 use Rattle.logic.specs.Book.{ContentsOk}
-use Rattle.book.proofs.contents.Statement.{statement}
-use Rattle.book.proofs.contents.Tie as tie
+use Rattle.contents.proofs.number.Statement.{statement}
+use Rattle.contents.proofs.number.Tie as tie
 
 returns : tie.Need-returns
 unfolding Answers
@@ -85,8 +85,8 @@ returns-9 c =
       ),
     )
 
-pub contents-spec : {M : Type 1} → statement M
-contents-spec =
+pub number-spec : {M : Type 1} → statement M
+number-spec =
     tie.close
     (tie.spec
     returns

@@ -1,0 +1,102 @@
+// The contents of a problem book: whether they are as stated, and the stretch of the caller's bytes that is an entry's body.
+ghost use mathlib.Core.Path.{_≡_};
+ghost use Prim.Native.Nat.{_+_, _<_};
+ghost use lib.ListN.{length};
+ghost use Rattle.logic.specs.Numbers.{answer};
+ghost use Rattle.logic.specs.Checks.{Answers};
+ghost use Rattle.logic.specs.CheckLaws.{Yes};
+ghost use Rattle.logic.specs.Book.{word, contentsChecks, Body, Placed};
+
+// Where a body stands in the book.
+#[repr(C)]
+pub struct Stretch {
+    pub start: u64,
+    pub length: u64,
+}
+
+pub fn wide(x: u8) -> usize
+    ensures { λ r. ⌜ (r ≡ x) × (r < 256) ⌝ }
+{
+    x as usize
+}
+
+// Two bytes, low first.
+fn word_at(s: &[u8], i: usize) -> usize
+    requires { ⌜ i + 1 < length (now s) ⌝ }
+    ensures { λ r. ⌜ (r ≡ word (now (s .entry)) i) × (r < 65536) ⌝ }
+{
+    wide(s[i]) + 256 * wide(s[i + 1])
+}
+
+// 0 where the contents are as stated, or the number that refuses them.
+pub fn number(book: &[u8]) -> u64
+    ensures { λ r. ⌜ Answers (contentsChecks (now (book .entry))) Yes (answer r 0) ⌝ }
+{
+    if book.len() < 11 {
+        return logic::BOOK_LENGTH;
+    }
+    if 206 < book.len() {
+        return logic::BOOK_LENGTH;
+    }
+    if book[0] != 2 {
+        return logic::CONTENTS;
+    }
+    if book[1] != 1 {
+        return logic::CONTENTS;
+    }
+    if book[6] != 2 {
+        return logic::CONTENTS;
+    }
+    let first = word_at(book, 2);
+    if first != 11 {
+        return logic::CONTENTS;
+    }
+    let second = word_at(book, 7);
+    if second != first + word_at(book, 4) {
+        return logic::CONTENTS;
+    }
+    if second + word_at(book, 9) != book.len() {
+        return logic::CONTENTS;
+    }
+    logic::YES
+}
+
+// The stretch of an entry's body; start 0 and length 0 where there is none.
+pub fn placed(book: &[u8], entry: u64) -> Stretch
+    ensures { λ r. ⌜ Placed (now (book .entry)) entry (r .start) (r .length) ⌝ }
+{
+    if number(book) != logic::YES {
+        return Stretch {
+            start: 0,
+            length: 0,
+        };
+    }
+    if 1 < entry {
+        return Stretch {
+            start: 0,
+            length: 0,
+        };
+    }
+    let row = 1 + 5 * (entry as usize);
+    Stretch {
+        start: word_at(book, row + 1) as u64,
+        length: word_at(book, row + 3) as u64,
+    }
+}
+
+fn end_of(at: Stretch) -> usize
+    requires { ⌜ at .start + at .length < 65536 ⌝ }
+    ensures { λ r. ⌜ r ≡ at .start + at .length ⌝ }
+{
+    at.start as usize + at.length as usize
+}
+
+// The body of an entry, as that stretch of the caller's bytes; an empty one where there is none.
+pub fn body(book: &[u8], entry: u64) -> &[u8]
+    ensures { λ r. ⌜ Body (now (book .entry)) entry (now r) ⌝ }
+{
+    let at = placed(book, entry);
+    let start = at.start as usize;
+    let end = end_of(at);
+    &book[start..end]
+}

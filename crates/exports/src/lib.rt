@@ -1,0 +1,18 @@
+// The boundary for C and Rust: each public call of the bench, with the full contract of the call it wraps. A slice arrives as a pointer and a length.
+use contents::Stretch;
+use logic::Answer;
+ghost use Rattle.logic.specs.Book.{Reads, Placed};
+
+#[no_mangle]
+pub extern "C" fn hollyspool_read(book: &[u8]) -> Answer
+    ensures { λ r. ⌜ Reads (now (book .entry)) r ⌝ }
+{
+    book::read(book)
+}
+
+#[no_mangle]
+pub extern "C" fn hollyspool_body(book: &[u8], entry: u64) -> Stretch
+    ensures { λ r. ⌜ Placed (now (book .entry)) entry (r .start) (r .length) ⌝ }
+{
+    contents::placed(book, entry)
+}

@@ -1,0 +1,23 @@
+//! The boundary as the archive has it. A slice passes as a pointer and then a length. Nothing
+//! checks these lines against the archive's own source.
+
+/// A number, a place and a tried count.
+#[derive(Clone, Copy, Debug, PartialEq, Eq)]
+#[repr(C)]
+pub struct Answer {
+    pub number: u64,
+    pub place: u64,
+    pub tried: u64,
+}
+
+/// Where a body stands in its book.
+#[repr(C)]
+pub struct Stretch {
+    pub start: u64,
+    pub length: u64,
+}
+
+extern "C" {
+    pub fn hollyspool_read(book: *const u8, len: usize) -> Answer;
+    pub fn hollyspool_body(book: *const u8, len: usize, entry: u64) -> Stretch;
+}

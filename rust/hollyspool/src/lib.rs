@@ -1,0 +1,20 @@
+//! The proved bench, as safe Rust. Document 01 says what each call answers; the archive that is
+//! linked here is proved to answer so.
+
+mod ffi;
+
+pub use ffi::Answer;
+
+/// Accepts a book (number 0) or says why not.
+pub fn read(book: &[u8]) -> Answer {
+    // SAFETY: the pointer and the length are those of one live slice, which the call only reads.
+    unsafe { ffi::hollyspool_read(book.as_ptr(), book.len()) }
+}
+
+/// The body of an entry, as that stretch of the caller's bytes. Empty for a book refused before
+/// 12, and for an entry other than 0 and 1.
+pub fn body(book: &[u8], entry: u64) -> &[u8] {
+    // SAFETY: as for `read`.
+    let stretch = unsafe { ffi::hollyspool_body(book.as_ptr(), book.len(), entry) };
+    &book[stretch.start as usize..][..stretch.length as usize]
+}

@@ -1,0 +1,127 @@
+//! Document 01, "When a node holds": the truth table, and the judge of models.
+
+use crate::answer::{settled, Answer};
+use crate::book::Book;
+use crate::model::{locs, named, Bytes, Heap, Model, Set};
+
+/// Says whether the model fits the book's formula.
+pub fn judge(book: &[u8], model: &[u8]) -> Answer {
+    settled(judged(book, model))
+}
+
+fn judged(book: &[u8], model: &[u8]) -> Result<Answer, Answer> {
+    let book = Book::accept(book)?;
+    let model = Model::accept(book.bounds, model)?;
+    Ok(Answer::yes_or_no(
+        Judge::new(&book, model.stack).fits(&model.heap),
+    ))
+}
+
+/// A judge of heaps, for one book and one stack.
+pub struct Judge<'a> {
+    book: &'a Book<'a>,
+    stack: Bytes,
+    /// The locations at which strongly disjoint heaps may not meet.
+    unnamed: Set,
+}
+
+impl<'a> Judge<'a> {
+    /// Works out the named locations, once for all heaps.
+    pub fn new(book: &'a Book<'a>, stack: Bytes) -> Judge<'a> {
+        Judge {
+            book,
+            stack,
+            unnamed: !named(&stack, book.bounds.v),
+        }
+    }
+
+    /// Whether the stack with this heap fits the formula.
+    pub fn fits(&self, heap: &Heap) -> bool {
+        self.holds(self.book.root(), &heap.value, heap.allocated)
+    }
+
+    /// Whether a node holds on the heap that has these values at the locations in `set`. Parts and
+    /// unions are sets over the same values.
+    fn holds(&self, node: usize, value: &Bytes, set: Set) -> bool {
+        let [operator, a, b] = self.book.nodes[node].map(usize::from);
+        match operator {
+            1 => set == 0 && self.stack[a] == self.stack[b],
+            2 => set == 0 && self.stack[a] != self.stack[b],
+            3 => self.points_to(a, b, value, set),
+            4 => self.list(a, b, value, set),
+            5 => self.holds(a, value, set) && self.holds(b, value, set),
+            6 => self.holds(a, value, set) || self.holds(b, value, set),
+            7 => self.holds(a, value, set) && !self.holds(b, value, set),
+            8 => !self.holds(a, value, set),
+            9 => self.separates(a, b, value, set),
+            10 => self.septracts(a, b, value, set),
+            _ => unreachable!("an accepted book has operators 1 to 10"),
+        }
+    }
+
+    /// Operator 3. Nil's bit is in no heap's set, so nothing points from nil.
+    fn points_to(&self, x: usize, y: usize, value: &Bytes, set: Set) -> bool {
+        let source = self.stack[x];
+        set == 1 << source && value[usize::from(source)] == self.stack[y]
+    }
+
+    /// Operator 4. Each link takes its source out of the set, so no location comes twice, and in
+    /// the end nothing may be left over.
+    fn list(&self, x: usize, y: usize, value: &Bytes, set: Set) -> bool {
+        let (mut at, last) = (self.stack[x], self.stack[y]);
+        let mut left = set;
+        while at != last {
+            if left >> at & 1 == 0 {
+                return false;
+            }
+            left ^= 1 << at;
+            at = value[usize::from(at)];
+        }
+        left == 0 && set.count_ones() as usize <= self.book.bounds.p
+    }
+
+    /// Operator 9: the parts of the set, upward.
+    fn separates(&self, a: usize, b: usize, value: &Bytes, set: Set) -> bool {
+        let mut part: Set = 0;
+        loop {
+            let rest = set ^ part;
+            if self.apart(value, part, rest)
+                && self.holds(a, value, part)
+                && self.holds(b, value, rest)
+            {
+                return true;
+            }
+            if part == set {
+                return false;
+            }
+            part = part.wrapping_sub(set) & set;
+        }
+    }
+
+    /// Operator 10: the added heaps, in candidate order. Cells that meet the heap at an unnamed
+    /// location are left out from the start.
+    fn septracts(&self, a: usize, b: usize, value: &Bytes, set: Set) -> bool {
+        let barred = self.unnamed & locs(value, set);
+        let targets = self.book.bounds.locations() & !barred;
+        let sources = self.book.bounds.cells() & !barred & !set;
+        let mut added = Heap {
+            value: *value,
+            allocated: 0,
+        };
+        loop {
+            if self.holds(a, &added.value, added.allocated)
+                && self.holds(b, &added.value, added.allocated | set)
+            {
+                return true;
+            }
+            if added.step(sources, targets) {
+                return false;
+            }
+        }
+    }
+
+    /// Strong disjointness of two sets of cells that share no cell.
+    fn apart(&self, value: &Bytes, one: Set, other: Set) -> bool {
+        locs(value, one) & locs(value, other) & self.unnamed == 0
+    }
+}

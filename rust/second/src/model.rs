@@ -1,0 +1,94 @@
+//! Document 01, "The problem book": a model is v bytes (each variable's location) and then n bytes
+//! (each location's value, or 255 for unallocated).
+
+use crate::answer::{Answer, Number};
+use crate::book::{Bounds, MOST};
+
+/// A set of locations: bit ℓ for location ℓ, nil's being bit 0.
+pub type Set = u16;
+
+/// A byte for nil and one for each variable or location.
+pub type Bytes = [u8; MOST + 1];
+
+/// The byte of an unallocated location.
+pub const UNALLOCATED: u8 = 255;
+
+impl Bounds {
+    /// Locations 0 to n.
+    pub fn locations(self) -> Set {
+        (2 << self.n) - 1
+    }
+
+    /// Locations 1 to n, which may be allocated.
+    pub fn cells(self) -> Set {
+        self.locations() & !1
+    }
+}
+
+/// The named locations: nil's and those of the declared variables, used or not.
+pub fn named(stack: &Bytes, v: usize) -> Set {
+    stack[..=v].iter().fold(0, |named, at| named | 1 << at)
+}
+
+/// The locations of a set with all values there, and no others.
+pub fn locs(value: &Bytes, set: Set) -> Set {
+    let mut locs = set;
+    let mut left = set;
+    while left != 0 {
+        locs |= 1 << value[left.trailing_zeros() as usize];
+        left &= left - 1;
+    }
+    locs
+}
+
+/// Values count only at allocated locations. Nil is never allocated.
+#[derive(Clone, Copy, Debug, Default)]
+pub struct Heap {
+    pub value: Bytes,
+    pub allocated: Set,
+}
+
+/// A stack and a heap.
+#[derive(Clone, Copy, Debug, Default)]
+pub struct Model {
+    /// The location of each variable; variable 0 is nil.
+    pub stack: Bytes,
+    pub heap: Heap,
+}
+
+impl Model {
+    /// The model behind the bytes, or number 17 or 18.
+    pub fn accept(bounds: Bounds, bytes: &[u8]) -> Result<Model, Answer> {
+        let Bounds { v, n, .. } = bounds;
+        if bytes.len() != v + n {
+            return Err(Answer::plain(Number::ModelLength));
+        }
+        let mut model = Model::default();
+        for (place, &byte) in bytes.iter().enumerate() {
+            if usize::from(byte) > n && (place < v || byte != UNALLOCATED) {
+                return Err(Answer::at(Number::ModelValue, place));
+            }
+            if place < v {
+                model.stack[place + 1] = byte;
+            } else if byte != UNALLOCATED {
+                let location = place - v + 1;
+                model.heap.value[location] = byte;
+                model.heap.allocated |= 1 << location;
+            }
+        }
+        Ok(model)
+    }
+
+    /// Writes the model's v + n bytes.
+    pub fn write(&self, bounds: Bounds, out: &mut [u8]) {
+        let (stack, cells) = out.split_at_mut(bounds.v);
+        stack.copy_from_slice(&self.stack[1..=bounds.v]);
+        for (location, cell) in (1..=bounds.n).zip(cells) {
+            *cell = if self.heap.allocated >> location & 1 == 1 {
+                self.heap.value[location]
+            } else {
+                UNALLOCATED
+            };
+        }
+    }
+}

@@ -1,0 +1,53 @@
+//! Document 01, "Candidates and budget": the search.
+
+use crate::answer::{settled, Answer, Number};
+use crate::book::{Book, Bounds};
+use crate::candidate::count;
+use crate::judge::Judge;
+use crate::model::Model;
+
+/// Looks for the lowest candidate that fits, and writes it if its number is below the budget.
+pub fn search(book: &[u8], budget: u64, out: &mut [u8]) -> Answer {
+    settled(searched(book, budget, out))
+}
+
+fn searched(book: &[u8], budget: u64, out: &mut [u8]) -> Result<Answer, Answer> {
+    let book = Book::accept(book)?;
+    let Bounds { v, n, .. } = book.bounds;
+    let out = out
+        .get_mut(..v + n)
+        .ok_or(Answer::plain(Number::OutputShort))?;
+    let total = count(book.bounds);
+    let (found, tried) = first_fit(&book, total.min(budget));
+    Ok(match found {
+        Some(model) => {
+            model.write(book.bounds, out);
+            Answer::tried(Number::Yes, tried)
+        }
+        None if tried == total => Answer::tried(Number::No, tried),
+        None => Answer::tried(Number::Spent, tried),
+    })
+}
+
+/// The first candidate that fits among the first `limit`, and how many were tried.
+fn first_fit(book: &Book, limit: u64) -> (Option<Model>, u64) {
+    let (cells, locations) = (book.bounds.cells(), book.bounds.locations());
+    let mut candidate = Model::default();
+    let mut tried = 0;
+    loop {
+        let judge = Judge::new(book, candidate.stack);
+        loop {
+            if tried == limit {
+                return (None, tried);
+            }
+            tried += 1;
+            if judge.fits(&candidate.heap) {
+                return (Some(candidate), tried);
+            }
+            if candidate.heap.step(cells, locations) {
+                break;
+            }
+        }
+        candidate.step_stack(book.bounds);
+    }
+}
