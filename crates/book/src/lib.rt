@@ -3,7 +3,7 @@ use contents::body;
 use contents::wide;
 use logic::Answer;
 ghost use mathlib.Core.Path.{_≡_};
-ghost use Prim.Native.Nat.{ℕ, suc, _+_, _*_, _<_, _≤_, _/_};
+ghost use Prim.Native.Nat.{ℕ, _+_, _*_, _<_, _≤_, _/_};
 ghost use lib.ListN.{length};
 ghost use Rattle.logic.specs.Numbers.{answer};
 ghost use Rattle.logic.specs.Checks.{Answers, upto};

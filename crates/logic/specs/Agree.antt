@@ -4,12 +4,12 @@ use mathlib.Core.Path.{_≡_, refl, sym, _∙_, ap, fun-ext}
 use mathlib.Core.Bool.{Bool, true, false, not}
 use mathlib.Core.Logic.{_⊎_, inl, inr, ⊎-elim}
 use Prim.Native.Nat.{ℕ, zero, suc, zero-le, _+_, _^_, _<_, _≤_}
-use native.Mathlib.Nat.{not-suc-le-zero, le-of-suc-le-suc}
+use native.Mathlib.Nat.{le-of-suc-le-suc}
 use native.Mathlib.Decide.{decLt, decLe, ℕ-discrete}
 use native.Mathlib.Omega.{arith}
 use lib.Dec.{eqb, ltb}
 use borrow.Author.Tests.{eq-eqb, ne-eqb, lt-ltb, le-ltb}
-use Rattle.logic.specs.Heap.{Map, Heap, Allocated, Value, Locs, Named, StronglyDisjoint, Parts, Empty}
+use Rattle.logic.specs.Heap.{Map, Heap, Allocated, Locs, Named, StronglyDisjoint, Parts, Empty}
 use Rattle.logic.specs.Holds.{Points}
 use Rattle.logic.specs.Tests.{andb, orb, pick, any, all, digit, inPart, heapOf, allocated, part, rest, union, named, empty, isValue, inLocs, within, apartAt, apart, points, sepAt, septAt}
 use Rattle.logic.specs.Digits.{numOf, numOf-lt, digit-num, digit-lt}

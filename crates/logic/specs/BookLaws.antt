@@ -2,17 +2,16 @@
 -- Assumes nothing.
 use mathlib.Core.Path.{_≡_, refl, sym, _∙_, ap, ap₂, subst₂}
 use mathlib.Core.List.{List, []}
-use mathlib.Core.Logic.{_⊎_, inl, inr, ⊎-elim}
-use Prim.Native.Nat.{ℕ, zero, suc, zero-le, pred, _+_, _-_, _*_, _/_, _%_, _<_, _≤_}
-use native.Mathlib.Nat.{not-suc-le-zero, eq-or-lt-of-le, le-of-suc-le-suc}
+use mathlib.Core.Logic.{inl, inr, ⊎-elim}
+use Prim.Native.Nat.{ℕ, zero, suc, _+_, _-_, _<_, _≤_}
 use native.Mathlib.Omega.{arith}
 use lib.ListN.{length, getD, take, drop, length-take, length-drop}
 use Rattle.logic.specs.declared.Answer.{Answer}
 use Rattle.logic.specs.Numbers.{answer}
-use Rattle.logic.specs.Checks.{Checks, done, check, _then_, upto, Passes, Answers}
+use Rattle.logic.specs.Checks.{_then_, upto, Passes, Answers}
 use Rattle.logic.specs.CheckLaws.{Single, Yes, Refuses, answers-single, yes-single, passes-of-yes, fails-of-refused, then-passes, passes-at, answers-refused, answers-after, refuses-then, refuses-upto}
 use Rattle.logic.specs.Table.{OperatorOk}
-use Rattle.logic.specs.Book.{most, offset, size, stretch, LengthOk, ContentsOk, BoundsOk, FormulaOk, LaidOut, Given, varsOf, locsOf, pathOf, formulaOf, nodes, root, contentsChecks, bodyChecks, nodeChecks, useChecks, tableChecks, bookChecks, Reads, Accepted, Whole, Body, Placed}
+use Rattle.logic.specs.Book.{offset, size, stretch, LaidOut, Given, varsOf, formulaOf, nodes, root, contentsChecks, bodyChecks, nodeChecks, useChecks, tableChecks, bookChecks, Reads, Accepted, Whole, Body, Placed}
 
 -- two answers that the reader's statement allows are equal, and so are two bodies and two places
 pub reads-single : (s : List ℕ) → Single (Reads s)

@@ -1,26 +1,18 @@
 -- What is worked out of a book and a model is what document 01 says of them. Assumes nothing.
-use mathlib.Core.Path.{_≡_, refl, _∙_}
-use mathlib.Core.Bool.{Bool, true, false}
+use mathlib.Core.Bool.{Bool}
 use mathlib.Core.List.{List}
-use mathlib.Core.Logic.{_⊎_, inl, inr, ⊎-elim}
-use Prim.Native.Nat.{ℕ, zero, suc, zero-le, _+_, _<_, _≤_, _%_}
-use native.Mathlib.Decide.{decLt}
+use Prim.Native.Nat.{ℕ, zero, suc, _+_, _<_, _%_}
 use native.Mathlib.Omega.{arith}
-use lib.Dec.{eqb, leb, ltb}
+use lib.Dec.{eqb, leb}
 use lib.ListN.{length, getD}
-use borrow.Author.Tests.{lt-ltb, le-ltb, eq-eqb, ne-eqb}
-use Rattle.logic.specs.declared.Answer.{Answer}
-use Rattle.logic.specs.Numbers.{answer, yes-number, no-number}
-use Rattle.logic.specs.Checks.{Checks, done, check, _then_, upto, Passes, Answers}
-use Rattle.logic.specs.CheckLaws.{passes-none, passes-more, passes-at, passes-then, then-passes, answers-rest, answers-single, Single}
-use Rattle.logic.specs.Heap.{Map, Stack, Heap}
-use Rattle.logic.specs.Tests.{andb, orb, all, pick}
-use Rattle.logic.specs.Reflect.{Is, is-iff, is-eq, is-le, is-and, is-or, is-all, is-not, decided}
-use Rattle.logic.specs.Table.{Operand, OperandOk, OperatorOk, OperandsOk, kindOf, opOf, operandOf, uses, tree}
-use Rattle.logic.specs.Book.{most, kind, offset, size, stretch, varsOf, locsOf, pathOf, formulaOf, nodes, root, ContentsOk, BoundsOk, FormulaOk, LaidOut, contentsChecks, bodyChecks, nodeChecks, useChecks, tableChecks, Accepted}
-use Rattle.logic.specs.Model.{stackIn, heapIn, digitOf, ByteOk, modelChecks, judgeChecks, FitsBook, Verdict, Judges}
+use Rattle.logic.specs.Checks.{Checks, done, check, _then_, upto, Passes}
+use Rattle.logic.specs.CheckLaws.{passes-none, passes-more, passes-at, passes-then, then-passes}
+use Rattle.logic.specs.Tests.{andb, orb, all}
+use Rattle.logic.specs.Reflect.{Is, is-iff, is-eq, is-le, is-and, is-or, is-all}
+use Rattle.logic.specs.Table.{Operand, kindOf, opOf, operandOf, uses}
+use Rattle.logic.specs.Book.{most, kind, offset, size, stretch, varsOf, formulaOf, nodes, root, ContentsOk, BoundsOk, FormulaOk, LaidOut, contentsChecks, bodyChecks, nodeChecks, useChecks, tableChecks, Accepted}
+use Rattle.logic.specs.Model.{ByteOk, modelChecks}
 use Rattle.logic.specs.Computed.{laidOut, boundsOk, formulaOk, operandOk, nodeOk, tableOk, accepted, modelOk}
-use Rattle.logic.specs.TruthHolds.{truth-holds}
 
 is-contents : (s : List ℕ) → Is (andb (eqb (getD s 0 0) 2) (andb (andb (eqb (kind s 0) 1) (eqb (kind s 1) 2)) (andb (eqb (offset s 0) 11) (andb (eqb (offset s 1) (offset s 0 + size s 0)) (eqb (offset s 1 + size s 1) (length s)))))) (ContentsOk s)
 is-contents s =

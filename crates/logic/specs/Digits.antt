@@ -1,5 +1,5 @@
 -- The number with given digits, and the digits of a number. Assumes nothing.
-use mathlib.Core.Path.{_≡_, refl, _∙_, ap}
+use mathlib.Core.Path.{_≡_, _∙_, ap}
 use Prim.Native.Nat.{ℕ, zero, suc, _+_, _*_, _/_, _^_, _<_}
 use native.Mathlib.Nat.{not-suc-le-zero, pow-suc, pow-zero, le-of-suc-le-suc, mod-lt}
 use native.Mathlib.Omega.{arith}

@@ -1,16 +1,13 @@
 -- Document 01's examples that are proved, in one go over a table. Assumes nothing.
-use mathlib.Core.Path.{_≡_, refl, sym, _∙_, ap}
+use mathlib.Core.Path.{_≡_, refl, _∙_, ap}
 use mathlib.Core.Bool.{Bool, true, false}
-use mathlib.Core.List.{List, [], _∷_, _++_}
+use mathlib.Core.List.{List, [], _∷_}
 use mathlib.Core.Logic.{⊎-elim}
-use Prim.Native.Nat.{ℕ, zero, suc, _+_, _*_, _%_, _/_}
-use native.Mathlib.Omega.{arith}
-use lib.Dec.{eqb, leb, ltb}
-use lib.ListN.{length, getD, take, drop}
-use borrow.Author.Tests.{eqb-true}
+use Prim.Native.Nat.{ℕ, _<_}
+use lib.Dec.{eqb}
+use lib.ListN.{length, getD}
 use Rattle.logic.specs.declared.Answer.{Answer}
 use Rattle.logic.specs.Numbers.{yes-number, no-number}
-use Rattle.logic.specs.Checks.{Checks, done, check, Passes, Answers}
 use Rattle.logic.specs.CheckLaws.{passes-then, answers-rest}
 use Rattle.logic.specs.Tests.{andb, pick, any, all, digit, inPart, heapOf, part, rest, union, without, named, empty, isValue, inLocs, within, apartAt, apart, points, chain, sepAt, septAt}
 use Rattle.logic.specs.Truth.{truth}
@@ -18,7 +15,8 @@ use Rattle.logic.specs.Table.{kindOf, uses, tree, deep, formOf, atomOf, 
 use Rattle.logic.specs.Book.{bookChecks, varsOf, locsOf, Accepted}
 use Rattle.logic.specs.Model.{modelChecks, judgeChecks, stackIn, heapIn, FitsBook, Verdict, Judges}
 use Rattle.logic.specs.Computed.{laidOut, boundsOk, formulaOk, operandOk, nodeOk, tableOk, accepted, modelOk, fitsBook}
-use Rattle.logic.specs.Reflect.{Is, is-and}
+use Rattle.logic.specs.Reflect.{Is, is-and, is-eq, fails}
+use Rattle.logic.specs.Entries.{every, entry-of}
 use Rattle.logic.specs.ComputedLaws.{is-accepted, is-model}
 use Rattle.logic.specs.ModelLaws.{is-fits}
 
@@ -48,7 +46,7 @@ queue = 4 ∷ 1 ∷ 0 ∷ []
 abbrev no-room : List ℕ
 no-room = 1 ∷ 0 ∷ 0 ∷ 1 ∷ 0 ∷ 0 ∷ 8 ∷ 1 ∷ 0 ∷ 1 ∷ 0 ∷ 0 ∷ 8 ∷ 3 ∷ 0 ∷ 10 ∷ 2 ∷ 4 ∷ 8 ∷ 5 ∷ 0 ∷ 5 ∷ 0 ∷ 6 ∷ []
 
-row : List ℕ → List ℕ → ℕ → Row
+pub row : List ℕ → List ℕ → ℕ → Row
 row b m r = record { book = b; model = m; number = r }
 
 -- P7, P8; P9; P10; P11 at p = 1 and p = 2; P12; P13's truths at n = 0 and, for each heap, at n = 1; P14 both ways
@@ -73,10 +71,6 @@ rows =
 abbrev pub Right : Row → Type 0
 Right w = (a : Answer) → Judges (w .book) (w .model) a → a .number ≡ w .number
 
-unfoldable pub Each : List Row → Type 0
-Each [] = Unit {0}
-Each (w ∷ ws) = Right w × Each ws
-
 -- the test of a row: the book is accepted, the model is in range, and the number is that of the computed truth
 right : Row → Bool
 right w =
@@ -86,33 +80,20 @@ right w =
 right-is : (w : Row) → right w ≡ true → Right w
 unfolding right Judges Accepted
 right-is w e a q =
-    let t = is-and (andb (accepted (w .book)) (modelOk (varsOf (w .book)) (locsOf (w .book)) (w .model)))
-    (eqb (pick (fitsBook (w .book) (w .model)) yes-number no-number) (w .number))
+    let t = is-and _ _
     (is-and _ _ (is-accepted (w .book)) (is-model (varsOf (w .book)) (locsOf (w .book)) (w .model)))
-    (record { to = eqb-true _ _; from = λ (z : pick (fitsBook (w .book) (w .model)) yes-number no-number ≡ w .number). rw z (same (w .number)) }) .to e in
+    (is-eq (pick (fitsBook (w .book) (w .model)) yes-number no-number) (w .number)) .to e in
     let v = answers-rest (judgeChecks (w .book) (w .model)) (Verdict (FitsBook (w .book) (w .model))) a
     (passes-then (bookChecks (w .book)) (modelChecks (varsOf (w .book)) (locsOf (w .book)) (w .model)) (t .0 .0) (t .0 .1)) q in
     number-is (fitsBook (w .book) (w .model)) (is-fits (w .book) (w .model) (t .0 .1)) (t .1) v
   where
-    same : (k : ℕ) → eqb k k ≡ true
-    same k = borrow.Author.Tests.eq-eqb k k refl
-
     number-is : (b : Bool) → Is b (FitsBook (w .book) (w .model)) → pick b yes-number no-number ≡ w .number → Verdict (FitsBook (w .book) (w .model)) a → a .number ≡ w .number
     number-is true i z v = ⊎-elim (λ x. ap (λ (r : Answer). r .number) (x .1) ∙ z) (λ x. absurd (x .0 (i .to refl))) v
-    number-is false i z v =
-        ⊎-elim (λ x. absurd (Rattle.logic.specs.Reflect.false-true (i .from (x .0)))) (λ x. ap (λ (r : Answer). r .number) (x .1) ∙ z) v
+    number-is false i z v = ⊎-elim (λ x. absurd (fails false i refl (x .0))) (λ x. ap (λ (r : Answer). r .number) (x .1) ∙ z) v
 
-every : List Row → Bool
-every [] = true
-every (w ∷ ws) = let r = every ws in andb (right w) r
-
-every-is : (ws : List Row) → every ws ≡ true → Each ws
-unfolding every Each
-every-is [] e = tt
-every-is (w ∷ ws) e =
-    let t = is-and (right w) (every ws) (record { to = λ z. z; from = λ z. z }) (record { to = λ z. z; from = λ z. z }) .to e in
-    (right-is w (t .0), every-is ws (t .1))
-
-pub examples : Each rows
+all-right : every (λ i w. right w) 0 rows ≡ true
 unfolding rows row bookOf every right accepted laidOut boundsOk formulaOk nodeOk operandOk tableOk modelOk fitsBook stackIn heapIn truth any all digit inPart heapOf part rest union without named empty isValue inLocs within apartAt apart points chain sepAt septAt kindOf uses tree deep formOf atomOf joinOf joinFrom5
-examples = every-is rows refl
+all-right = refl
+
+pub examples : (k : ℕ) → k < length rows → Right (getD rows k (row [] [] 0))
+examples k l = right-is (getD rows k (row [] [] 0)) (entry-of (row [] [] 0) (λ i w. right w) rows all-right k l)

@@ -1,17 +1,16 @@
 -- A model in range is a stack and a heap, and the judge's statement allows one answer. Assumes nothing.
-use mathlib.Core.Path.{_≡_, refl, sym, _∙_, ap}
+use mathlib.Core.Path.{_≡_, refl, sym, _∙_}
 use mathlib.Core.Bool.{Bool, true, false}
 use mathlib.Core.List.{List}
-use mathlib.Core.Logic.{_⊎_, inl, inr, ⊎-elim}
+use mathlib.Core.Logic.{⊎-elim}
 use Prim.Native.Nat.{ℕ, zero, suc, zero-le, _+_, _<_, _≤_}
 use native.Mathlib.Decide.{decLt}
 use native.Mathlib.Omega.{arith}
 use lib.Dec.{eqb, ltb}
-use lib.ListN.{length, getD}
-use borrow.Author.Tests.{lt-ltb, le-ltb, eq-eqb, ne-eqb}
-use Rattle.logic.specs.declared.Answer.{Answer}
-use Rattle.logic.specs.Checks.{Checks, done, check, upto, Passes}
-use Rattle.logic.specs.CheckLaws.{passes-at, answers-single, answers-rest, Single}
+use lib.ListN.{getD}
+use borrow.Author.Tests.{le-ltb, eq-eqb}
+use Rattle.logic.specs.Checks.{done, check, Passes}
+use Rattle.logic.specs.CheckLaws.{passes-at, answers-single, Single}
 use Rattle.logic.specs.Heap.{Stack, Heap}
 use Rattle.logic.specs.Tests.{pick}
 use Rattle.logic.specs.Reflect.{Is}

@@ -1,10 +1,8 @@
 -- Laws of the node table: its operands by their kind, and how often a node is used. Assumes nothing.
-use mathlib.Core.Path.{_≡_, refl, sym, _∙_, ap}
+use mathlib.Core.Path.{_≡_, refl}
 use mathlib.Core.List.{List}
-use Prim.Native.Nat.{ℕ, zero, suc, _+_, _<_, _≤_}
-use native.Mathlib.Nat.{not-suc-le-zero}
+use Prim.Native.Nat.{ℕ, zero, suc, _+_, _≤_}
 use native.Mathlib.Numerals.{add-one}
-use native.Mathlib.Omega.{arith}
 use lib.Dec.{eqb, leb, ltb}
 use borrow.Author.Tests.{eq-eqb, ne-eqb, le-leb}
 use Rattle.logic.specs.Reflect.{Is, is-eq, is-le, is-lt}
@@ -47,4 +45,4 @@ module _ (f : List ℕ) (k : ℕ) where
 
   pub uses-more : (j : ℕ) → uses f (j + 1) k ≡ uses f j k + (usesOn f j k 0 + usesOn f j k 1)
   unfolding uses
-  uses-more j = rw add-one
+  uses-more j = rw (add-one j)

@@ -1,6 +1,6 @@
 -- The computed truth: Holds, worked out. Parts are tried upward by their number, added heaps in candidate order. Assumes
 -- nothing: these are definitions.
-use mathlib.Core.Bool.{Bool, true, false, not}
+use mathlib.Core.Bool.{Bool, not}
 use Prim.Native.Nat.{ℕ, _+_, _^_}
 use lib.Dec.{eqb}
 use Rattle.logic.specs.Heap.{Map}

@@ -1,8 +1,7 @@
 -- `book::uses_on` meets its contract. Assumes nothing.
 use borrow.Author.Needs.{needs}
-use mathlib.Core.Path.{_∙_, sym, ap, _≡_}
+use mathlib.Core.Path.{_∙_, sym, ap}
 use Prim.Native.Nat.{ℕ}
-use native.Mathlib.Omega.{arith}
 use Rattle.logic.specs.Table.{kindOf}
 use Rattle.logic.specs.TableLaws.{used-on, not-used-on, no-child-on}
 use Rattle.book.proofs.uses_on.Statement.{statement}

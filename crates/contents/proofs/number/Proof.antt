@@ -4,7 +4,6 @@ use mathlib.Core.Path.{refl}
 use mathlib.Core.Logic.{inl, inr}
 use native.Mathlib.Omega.{arith}
 use Rattle.logic.specs.Checks.{Answers}
-use Rattle.logic.specs.Book.{ContentsOk}
 use Rattle.contents.proofs.number.Statement.{statement}
 use Rattle.contents.proofs.number.Tie as tie
 

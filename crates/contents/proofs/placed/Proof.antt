@@ -3,7 +3,7 @@ use borrow.Author.Needs.{needs}
 use mathlib.Core.Path.{refl}
 use mathlib.Core.Logic.{inl, inr}
 use native.Mathlib.Omega.{arith}
-use Rattle.logic.specs.Book.{Placed, LaidOut}
+use Rattle.logic.specs.Book.{Placed}
 use Rattle.logic.specs.BookLaws.{laid-out, not-laid-out}
 use Rattle.contents.proofs.placed.Statement.{statement}
 use Rattle.contents.proofs.placed.Tie as tie
