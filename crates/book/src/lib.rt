@@ -82,7 +82,7 @@ fn operand(f: &[u8], v: u8, k: usize, op: u8, side: usize) -> bool
 }
 
 // The answer of number and place, outside search.
-fn answer_of(number: u64, place: usize) -> Answer
+pub fn answer_of(number: u64, place: usize) -> Answer
     ensures { λ r. ⌜ r ≡ answer number place ⌝ }
 {
     Answer {

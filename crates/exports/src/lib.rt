@@ -2,6 +2,7 @@
 use contents::Stretch;
 use logic::Answer;
 ghost use Rattle.logic.specs.Book.{Reads, Placed};
+ghost use Rattle.logic.specs.Model.{Judges};
 
 #[no_mangle]
 pub extern "C" fn hollyspool_read(book: &[u8]) -> Answer
@@ -15,4 +16,11 @@ pub extern "C" fn hollyspool_body(book: &[u8], entry: u64) -> Stretch
     ensures { λ r. ⌜ Placed (now (book .entry)) entry (r .start) (r .length) ⌝ }
 {
     contents::placed(book, entry)
+}
+
+#[no_mangle]
+pub extern "C" fn hollyspool_judge(book: &[u8], model: &[u8]) -> Answer
+    ensures { λ r. ⌜ Judges (now (book .entry)) (now (model .entry)) r ⌝ }
+{
+    model::judge(book, model)
 }

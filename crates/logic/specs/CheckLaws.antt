@@ -58,6 +58,12 @@ unfolding Answers _then_
 answers-refused done R d a q f = absurd (f (ap (λ (r : Answer). r .number) q))
 answers-refused (check P m k c) R d a q f = ⊎-elim inl (λ x. inr (x .0, answers-refused c R d a (x .1) f)) q
 
+-- a refusal is one whatever the answer would be where every part holds
+pub answers-other : (c : Checks) (R : Answer → Type 0) (a : Answer) → Answers c Yes a → ¬ (a .number ≡ 0) → Answers c R a
+unfolding Answers
+answers-other done R a q f = absurd (f (ap (λ (r : Answer). r .number) q))
+answers-other (check P m k c) R a q f = ⊎-elim inl (λ x. inr (x .0, answers-other c R a (x .1) f)) q
+
 -- the checks after those that passed
 pub answers-after : (c d : Checks) (R : Answer → Type 0) (a : Answer) → Passes c → Answers d R a → Answers (c then d) R a
 unfolding Passes Answers _then_

@@ -5,13 +5,13 @@ use Prim.Native.Nat.{ℕ, zero, suc, _+_, _<_, _%_}
 use native.Mathlib.Omega.{arith}
 use lib.Dec.{eqb, leb}
 use lib.ListN.{length, getD}
-use Rattle.logic.specs.Checks.{Checks, done, check, _then_, upto, Passes}
+use Rattle.logic.specs.Checks.{Checks, _then_, upto, Passes}
 use Rattle.logic.specs.CheckLaws.{passes-none, passes-more, passes-at, passes-then, then-passes}
 use Rattle.logic.specs.Tests.{andb, orb, all}
 use Rattle.logic.specs.Reflect.{Is, is-iff, is-eq, is-le, is-and, is-or, is-all}
 use Rattle.logic.specs.Table.{Operand, kindOf, opOf, operandOf, uses}
 use Rattle.logic.specs.Book.{most, kind, offset, size, stretch, varsOf, formulaOf, nodes, root, ContentsOk, BoundsOk, FormulaOk, LaidOut, contentsChecks, bodyChecks, nodeChecks, useChecks, tableChecks, Accepted}
-use Rattle.logic.specs.Model.{ByteOk, modelChecks}
+use Rattle.logic.specs.Model.{byteChecks, modelChecks}
 use Rattle.logic.specs.Computed.{laidOut, boundsOk, formulaOk, operandOk, nodeOk, tableOk, accepted, modelOk}
 
 is-contents : (s : List ℕ) → Is (andb (eqb (getD s 0 0) 2) (andb (andb (eqb (kind s 0) 1) (eqb (kind s 1) 2)) (andb (eqb (offset s 0) 11) (andb (eqb (offset s 1) (offset s 0 + size s 0)) (eqb (offset s 1 + size s 1) (length s)))))) (ContentsOk s)
@@ -82,5 +82,5 @@ pub is-model : (v n : ℕ) (m : List ℕ) → Is (modelOk v n m) (Passes (modelC
 unfolding modelOk Passes
 is-model v n m =
     is-and _ _ (is-eq (length m) (v + n))
-    (is-upto (λ i. check (ByteOk v n m i) 18 i done) (λ i. orb (leb (getD m i 0) n) (andb (leb v i) (eqb (getD m i 0) 255)))
+    (is-upto (byteChecks v n m) (λ i. orb (leb (getD m i 0) n) (andb (leb v i) (eqb (getD m i 0) 255)))
     (λ i. is-iff (is-or _ _ (is-le (getD m i 0) n) (is-and _ _ (is-le v i) (is-eq (getD m i 0) 255))) (λ q. (q, tt)) (λ q. q .0)) (v + n))

@@ -30,13 +30,19 @@ unfoldable pub heapIn : ℕ → ℕ → List ℕ → Map
 heapIn v n m zero = 0
 heapIn v n m (suc i) = pick (ltb i n) (digitOf (getD m (v + i) 0)) 0
 
--- byte i of a model is in range: a location, or from byte v on a location or 255
+-- x is in range as byte i of a model: a location, or from byte v on a location or 255
+abbrev pub InRange : ℕ → ℕ → ℕ → ℕ → Type 0
+InRange v n i x = (x ≤ n) ⊎ ((v ≤ i) × (x ≡ 255))
+
 abbrev pub ByteOk : ℕ → ℕ → List ℕ → ℕ → Type 0
-ByteOk v n m i = (getD m i 0 ≤ n) ⊎ ((v ≤ i) × (getD m i 0 ≡ 255))
+ByteOk v n m i = InRange v n i (getD m i 0)
 
 -- "17, 18: model of wrong length; value out of range", at its "first such byte"
+abbrev pub byteChecks : ℕ → ℕ → List ℕ → ℕ → Checks
+byteChecks v n m i = check (ByteOk v n m i) model-value i done
+
 abbrev pub modelChecks : ℕ → ℕ → List ℕ → Checks
-modelChecks v n m = check (length m ≡ v + n) model-length 0 (upto (λ i. check (ByteOk v n m i) model-value i done) (v + n))
+modelChecks v n m = check (length m ≡ v + n) model-length 0 (upto (byteChecks v n m) (v + n))
 
 -- a model fits a formula: its root holds. A model's fit has a name of its own, apart from a node's truth
 abbrev pub Fits : ℕ → ℕ → ℕ → Form → Map → Map → Type 0

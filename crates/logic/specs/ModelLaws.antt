@@ -9,14 +9,14 @@ use native.Mathlib.Omega.{arith}
 use lib.Dec.{eqb, ltb}
 use lib.ListN.{getD}
 use borrow.Author.Tests.{le-ltb, eq-eqb}
-use Rattle.logic.specs.Checks.{done, check, Passes}
+use Rattle.logic.specs.Checks.{Passes}
 use Rattle.logic.specs.CheckLaws.{passes-at, answers-single, Single}
 use Rattle.logic.specs.Heap.{Stack, Heap}
 use Rattle.logic.specs.Tests.{pick}
 use Rattle.logic.specs.Reflect.{Is}
 use Rattle.logic.specs.Table.{tree}
 use Rattle.logic.specs.Book.{varsOf, locsOf, pathOf, formulaOf, root}
-use Rattle.logic.specs.Model.{stackIn, heapIn, digitOf, ByteOk, modelChecks, judgeChecks, FitsBook, Verdict, Judges}
+use Rattle.logic.specs.Model.{stackIn, heapIn, digitOf, ByteOk, byteChecks, modelChecks, judgeChecks, FitsBook, Verdict, Judges}
 use Rattle.logic.specs.Computed.{fitsBook}
 use Rattle.logic.specs.TruthHolds.{truth-holds}
 
@@ -27,7 +27,7 @@ pick-le false x k l = zero-le
 module _ (v n : ℕ) (m : List ℕ) (ok : Passes (modelChecks v n m)) where
   pub model-byte : (i : ℕ) → i < v + n → ByteOk v n m i
   unfolding Passes
-  model-byte i l = passes-at (λ j. check (ByteOk v n m j) 18 j done) (v + n) (ok .1) i l .0
+  model-byte i l = passes-at (byteChecks v n m) (v + n) (ok .1) i l .0
 
   location : (i : ℕ) → i < v → getD m i 0 ≤ n
   location i l = ⊎-elim (λ q. q) (λ q. absurd (omega (arith, q .0))) (model-byte i (omega arith))

@@ -1,4 +1,4 @@
-//! Books made from bounds and nodes, and random trees of nodes.
+//! Books made from bounds and nodes; all small trees of nodes, and random ones.
 
 use crate::random::Random;
 
@@ -49,4 +49,49 @@ fn children(operator: u8) -> usize {
 fn closes(operator: u8, open: usize, left: usize) -> bool {
     let children = children(operator);
     children <= open && open - children <= left
+}
+
+/// Every tree of up to three nodes over v variables.
+pub fn small(v: u8) -> Vec<Vec<[u8; 3]>> {
+    let atoms = |operator| (0..=v).flat_map(move |a| (0..=v).map(move |b| [operator, a, b]));
+    let atoms: Vec<[u8; 3]> = (1..=4).flat_map(atoms).collect();
+    let mut trees = Vec::new();
+    for &first in &atoms {
+        let negations = [first, [8, 0, 0], [8, 1, 0]];
+        trees.extend((1..=3).map(|count| negations[..count].to_vec()));
+        for &second in &atoms {
+            for operator in [5, 6, 7, 9, 10] {
+                trees.push(vec![first, second, [operator, 0, 1]]);
+                trees.push(vec![first, second, [operator, 1, 0]]);
+            }
+        }
+    }
+    trees
+}
+
+/// Turns operators 9 and 10 into 5 and 6 where a plain judge might visit more than `most` nodes
+/// below one of them, over n locations. Gives the visits that the root may then take.
+pub fn tame(nodes: &mut [[u8; 3]], n: u8, most: u64) -> u64 {
+    let heaps = (u64::from(n) + 2).pow(n.into());
+    let mut visits: Vec<u64> = Vec::new();
+    for node in nodes {
+        let [operator, a, b] = *node;
+        let below = match children(operator) {
+            0 => 0,
+            1 => visits[usize::from(a)],
+            _ => visits[usize::from(a)] + visits[usize::from(b)],
+        };
+        let times = match operator {
+            9 => 1 << n,
+            10 => heaps,
+            _ => 1,
+        };
+        if times > 1 && below * times > most {
+            node[0] -= 4;
+            visits.push(1 + below);
+        } else {
+            visits.push(1 + below * times);
+        }
+    }
+    visits.pop().expect("a tree has a root")
 }

@@ -20,4 +20,10 @@ pub struct Stretch {
 extern "C" {
     pub fn hollyspool_read(book: *const u8, len: usize) -> Answer;
     pub fn hollyspool_body(book: *const u8, len: usize, entry: u64) -> Stretch;
+    pub fn hollyspool_judge(
+        book: *const u8,
+        book_len: usize,
+        model: *const u8,
+        model_len: usize,
+    ) -> Answer;
 }

@@ -18,3 +18,9 @@ pub fn body(book: &[u8], entry: u64) -> &[u8] {
     let stretch = unsafe { ffi::hollyspool_body(book.as_ptr(), book.len(), entry) };
     &book[stretch.start as usize..][..stretch.length as usize]
 }
+
+/// Says whether the model fits the book's formula.
+pub fn judge(book: &[u8], model: &[u8]) -> Answer {
+    // SAFETY: as for `read`, for each of the two slices.
+    unsafe { ffi::hollyspool_judge(book.as_ptr(), book.len(), model.as_ptr(), model.len()) }
+}

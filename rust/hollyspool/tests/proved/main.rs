@@ -2,5 +2,6 @@
 
 mod compare;
 mod damaged;
+mod judge;
 mod lines;
 mod made;

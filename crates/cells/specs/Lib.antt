@@ -1,0 +1,9 @@
+pub mod Cells
+pub mod Bits
+pub mod Sets
+pub mod Subsets
+pub mod Packing
+pub mod Built
+pub mod Heaps
+pub mod Lists
+pub mod Tables

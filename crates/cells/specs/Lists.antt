@@ -1,0 +1,80 @@
+-- Laws of a list segment as code walks it. Assumes nothing.
+use mathlib.Core.Path.{_≡_, refl, sym, subst, _∙_, ap}
+use mathlib.Core.Bool.{Bool, true, false}
+use Prim.Native.Nat.{ℕ, zero, suc, _-_, _<_, _≤_}
+use native.Mathlib.Nat.{not-suc-le-zero}
+use native.Mathlib.Numerals.{sub-one}
+use native.Mathlib.Omega.{arith}
+use lib.Bits.{bitXor}
+use borrow.Author.Tests.{eq-eqb, ne-eqb}
+use Rattle.logic.specs.Heap.{Map, Heap, Empty}
+use Rattle.logic.specs.Holds.{Segment}
+use Rattle.logic.specs.Tests.{empty, without, chain}
+use Rattle.logic.specs.Reflect.{Is, is-iff}
+use Rattle.logic.specs.Agree.{is-empty}
+use Rattle.logic.specs.Chains.{without-heap, is-segment}
+use Rattle.cells.specs.Cells.{most, cells, Placed}
+use Rattle.cells.specs.Sets.{is-same}
+use Rattle.cells.specs.Packing.{cells-nil}
+use Rattle.cells.specs.Heaps.{cut-is}
+
+chain-same : (n k a b : ℕ) (h : Map) → a ≡ b → chain n k a b h ≡ empty n h
+unfolding chain
+chain-same n zero a b h e = rw (eq-eqb a b e)
+chain-same n (suc k) a b h e = rw (eq-eqb a b e)
+
+chain-short : (n k a b : ℕ) (h : Map) → k ≤ 0 → ¬ (a ≡ b) → chain n k a b h ≡ false
+unfolding chain
+chain-short n zero a b h l e = rw (ne-eqb a b e)
+chain-short n (suc k) a b h l e = absurd (not-suc-le-zero l)
+
+chain-broken : (n k a b : ℕ) (h : Map) → ¬ (a ≡ b) → h a ≡ 0 → chain n k a b h ≡ false
+unfolding chain
+chain-broken n zero a b h e z = rw (ne-eqb a b e)
+chain-broken n (suc k) a b h e z = rw (ne-eqb a b e, eq-eqb (h a) 0 z)
+
+chain-step : (n k a b : ℕ) (h : Map) → 0 < k → ¬ (a ≡ b) → ¬ (h a ≡ 0) → chain n (k - 1) (h a - 1) b (without a h) ≡ chain n k a b h
+unfolding chain
+chain-step n zero a b h l e z = absurd (not-suc-le-zero l)
+chain-step n (suc k) a b h l e z = rw (ne-eqb a b e, ne-eqb (h a) 0 z, sub-one, sub-one)
+
+-- what is left of the segment from a to b over w, of at most p links, is one from x to b over g, of at most k
+pub record Walk (p a b w k x g : ℕ) : Type 0 where
+  pub same : chain most k x b (cells g) ≡ chain most p a b (cells w)
+  pub low : x ≤ most
+  pub heap : Heap most (cells g)
+
+module _ (p a b w : ℕ) (kw : Heap most (cells w)) where
+  by-chain : (r : Bool) → r ≡ chain most p a b (cells w) → Is r (Segment p a b (cells w))
+  by-chain r e = subst (λ (c : Bool). Is c (Segment p a b (cells w))) (sym e) (is-segment most p a b (cells w) kw)
+
+  module _ (k x g : ℕ) (q : Walk p a b w k x g) where
+    pub walk-there : (r : Bool) → x ≡ b → Is r (Empty (cells g)) → Is r (Segment p a b (cells w))
+    walk-there r e i = by-chain r (is-same r (empty most (cells g)) i (is-empty most (cells g) (q .heap)) ∙ sym (chain-same most k x b (cells g) e) ∙ q .same)
+
+    pub walk-short : k ≤ 0 → ¬ (x ≡ b) → Is false (Segment p a b (cells w))
+    walk-short l e = by-chain false (sym (chain-short most k x b (cells g) l e) ∙ q .same)
+
+    pub walk-broken : (d : ℕ) → ¬ (x ≡ b) → d ≡ cells g x → d ≡ 0 → Is false (Segment p a b (cells w))
+    walk-broken d e f z = by-chain false (sym (chain-broken most k x b (cells g) e (sym f ∙ z)) ∙ q .same)
+
+    -- a location with a cell is not nil
+    pub walk-some : (d : ℕ) → d ≡ cells g x → ¬ (d ≡ 0) → 1 ≤ x
+    walk-some d f z = go x f
+      where
+        go : (y : ℕ) → d ≡ cells g y → 1 ≤ y
+        go zero e = absurd (z (e ∙ cells-nil g))
+        go (suc y) e = omega arith
+
+    pub walk-on : (d r : ℕ) → 0 < k → ¬ (x ≡ b) → d ≡ cells g x → ¬ (d ≡ 0) → Placed d x r → Walk p a b w (k - 1) (d - 1) (bitXor g r)
+    walk-on d r l e f z pr =
+        let cut : cells (bitXor g r) ≡ without x (cells g) = cut-is g x r (subst (λ (y : ℕ). Placed y x r) f pr) in
+        let v = q .heap .low x in
+        record {
+          same = rw (cut, f) (chain-step most k x b (cells g) l e (λ o. z (f ∙ o)) ∙ q .same);
+          low = omega arith;
+          heap = rw cut (without-heap most x (cells g) (q .heap));
+        }
+
+  pub walk-start : a ≤ most → Walk p a b w p a w
+  walk-start l = record { same = refl; low = l; heap = kw }

@@ -1,0 +1,159 @@
+-- Laws of sets of locations: the members of a meet and of a union, equal sets, and a set built from its highest member down.
+-- Assumes nothing.
+use mathlib.Core.Path.{_≡_, refl, sym, subst, _∙_, ap, ap₂, fun-ext}
+use mathlib.Core.Bool.{Bool, true, false, not}
+use Prim.Native.Nat.{ℕ, zero, suc, zero-le, _+_, _*_, _-_, _/_, _^_, _<_, _≤_}
+use native.Mathlib.Nat.{not-suc-le-zero, pow-suc, pow-zero, pow-le-pow-right, le-of-suc-le-suc, lt-of-le-of-lt, lt-of-lt-of-le, div-lt-iff-lt-mul, add-zero, add-suc, suc-add, zero-add, one-mul}
+use native.Mathlib.Decide.{decLt}
+use native.Mathlib.Omega.{arith}
+use lib.Dec.{eqb, ltb}
+use lib.Bits.{bitAnd, bitOr, and-le-l}
+use borrow.Author.Tests.{eqb-true, eqb-false, lt-ltb, le-ltb}
+use Rattle.logic.specs.Tests.{andb, orb, pick, digit, inPart}
+use Rattle.logic.specs.Digits.{numOf, numOf-lt, digit-num, digit-lt}
+use Rattle.logic.specs.Reflect.{Is, false-true, is-iff, is-eq}
+use Rattle.cells.specs.Bits.{digit-zero, digit-past, same-digits, digit-and, digit-or, digit-placed}
+
+-- two tests of one fact are equal
+pub is-same : (a b : Bool) {P : Type 0} → Is a P → Is b P → a ≡ b
+is-same true b i j = sym (j .from (i .to refl))
+is-same false true i j = i .from (j .to refl)
+is-same false false i j = refl
+
+two-pos : 0 < 2
+two-pos = omega arith
+
+and-bits : (x y : ℕ) → x < 2 → y < 2 → eqb (bitAnd x y) 1 ≡ andb (eqb x 1) (eqb y 1)
+and-bits zero y p q = refl
+and-bits (suc zero) zero p q = refl
+and-bits (suc zero) (suc zero) p q = refl
+and-bits (suc zero) (suc (suc y)) p q = absurd (not-suc-le-zero (le-of-suc-le-suc (le-of-suc-le-suc q)))
+and-bits (suc (suc x)) y p q = absurd (not-suc-le-zero (le-of-suc-le-suc (le-of-suc-le-suc p)))
+
+or-bits : (x y : ℕ) → x < 2 → y < 2 → eqb (bitOr x y) 1 ≡ orb (eqb x 1) (eqb y 1)
+or-bits zero y p q = refl
+or-bits (suc zero) zero p q = refl
+or-bits (suc zero) (suc zero) p q = refl
+or-bits (suc zero) (suc (suc y)) p q = absurd (not-suc-le-zero (le-of-suc-le-suc (le-of-suc-le-suc q)))
+or-bits (suc (suc x)) y p q = absurd (not-suc-le-zero (le-of-suc-le-suc (le-of-suc-le-suc p)))
+
+pub in-and : (a b ℓ : ℕ) → inPart (bitAnd a b) ℓ ≡ andb (inPart a ℓ) (inPart b ℓ)
+unfolding inPart
+in-and a b zero = refl
+in-and a b (suc i) =
+    ap (λ (q : ℕ). eqb q 1) (digit-and 1 a b i) ∙ and-bits (digit 2 a i) (digit 2 b i) (digit-lt 2 a i two-pos) (digit-lt 2 b i two-pos)
+
+pub in-or : (a b ℓ : ℕ) → inPart (bitOr a b) ℓ ≡ orb (inPart a ℓ) (inPart b ℓ)
+unfolding inPart
+in-or a b zero = refl
+in-or a b (suc i) =
+    ap (λ (q : ℕ). eqb q 1) (digit-or 1 a b i) ∙ or-bits (digit 2 a i) (digit 2 b i) (digit-lt 2 a i two-pos) (digit-lt 2 b i two-pos)
+
+pub in-nothing : (ℓ : ℕ) → inPart 0 ℓ ≡ false
+unfolding inPart
+in-nothing zero = refl
+in-nothing (suc i) = ap (λ (q : ℕ). eqb q 1) (digit-zero 2 i two-pos)
+
+-- no location above k is in a set below 2 ^ k
+pub in-past : (k m ℓ : ℕ) → m < 2 ^ k → k < ℓ → inPart m ℓ ≡ false
+unfolding inPart
+in-past k m zero h l = refl
+in-past k m (suc i) h l = ap (λ (q : ℕ). eqb q 1) (digit-past 2 k m i two-pos h (le-of-suc-le-suc l))
+
+one-of : (b : Bool) → eqb (pick b 1 0) 1 ≡ b
+one-of true = refl
+one-of false = refl
+
+-- the set of one location; that of nil is empty
+pub in-just : (l i : ℕ) → inPart (2 ^ l / 2) (suc i) ≡ eqb (suc i) l
+unfolding inPart digit
+in-just l i =
+    ap (λ (q : ℕ). eqb (digit 2 q (suc i)) 1) (sym (one-mul (2 ^ l)))
+    ∙ ap (λ (q : ℕ). eqb q 1) (digit-placed 2 1 l (suc i) (omega arith))
+    ∙ one-of (eqb (suc i) l)
+
+no-one : (x : ℕ) → x < 2 → eqb x 1 ≡ false → x ≡ 0
+no-one zero l e = refl
+no-one (suc zero) l e = absurd (eqb-false 1 1 e refl)
+no-one (suc (suc x)) l e = absurd (not-suc-le-zero (le-of-suc-le-suc (le-of-suc-le-suc l)))
+
+same-bit : (x y : ℕ) → x < 2 → y < 2 → eqb x 1 ≡ eqb y 1 → x ≡ y
+same-bit zero y p q e = sym (no-one y q (sym e))
+same-bit (suc zero) y p q e = sym (eqb-true y 1 (sym e))
+same-bit (suc (suc x)) y p q e = absurd (not-suc-le-zero (le-of-suc-le-suc (le-of-suc-le-suc p)))
+
+-- two sets with the same members are the same
+pub same-set : (k a b : ℕ) → a < 2 ^ k → b < 2 ^ k → ((ℓ : ℕ) → inPart a ℓ ≡ inPart b ℓ) → a ≡ b
+unfolding inPart
+same-set k a b p q e =
+    same-digits 2 k a b two-pos p q (λ i _. same-bit (digit 2 a i) (digit 2 b i) (digit-lt 2 a i two-pos) (digit-lt 2 b i two-pos) (e (suc i)))
+
+-- a set with no member above n is below 2 ^ n
+pub set-small : (n k a : ℕ) → a < 2 ^ k → ((ℓ : ℕ) → n < ℓ → inPart a ℓ ≡ false) → a < 2 ^ n
+unfolding inPart digit
+set-small zero k a l z =
+    rw pow-zero
+    (subst (λ (x : ℕ). x < 1) (sym (same-set k a 0 l (lt-of-le-of-lt zero-le l) (λ ℓ. none ℓ ∙ sym (in-nothing ℓ)))) (omega arith))
+  where
+    none : (ℓ : ℕ) → inPart a ℓ ≡ false
+    none zero = refl
+    none (suc i) = z (suc i) (omega arith)
+set-small (suc n) zero a l z = lt-of-lt-of-le l (pow-le-pow-right {n = 2} two-pos {i = 0} {j = suc n} zero-le)
+set-small (suc n) (suc k) a l z =
+    rw pow-suc (div-lt-iff-lt-mul {k = 2} {x = a} {y = 2 ^ n} two-pos .0
+    (set-small n k (a / 2) (div-lt-iff-lt-mul {k = 2} {x = a} {y = 2 ^ k} two-pos .1 (rw pow-suc at l)) halved))
+  where
+    halved : (ℓ : ℕ) → n < ℓ → inPart (a / 2) ℓ ≡ false
+    halved zero h = refl
+    halved (suc i) h = z (suc (suc i)) (omega arith)
+
+-- whether two sets have no common member, as code works it out
+pub is-meet-nothing : (k a b : ℕ) → a < 2 ^ k → Is (eqb (bitAnd a b) 0) ((ℓ : ℕ) → inPart a ℓ ≡ true → ¬ (inPart b ℓ ≡ true))
+is-meet-nothing k a b l =
+    is-iff (is-eq (bitAnd a b) 0)
+    (λ (e : bitAnd a b ≡ 0) ℓ p q. false-true (sym (in-nothing ℓ) ∙ ap (λ (x : ℕ). inPart x ℓ) (sym e) ∙ in-and a b ℓ ∙ rw (p, q)))
+    (λ f. same-set k (bitAnd a b) 0 (lt-of-le-of-lt (and-le-l a b) l) (lt-of-le-of-lt zero-le l) (λ ℓ. in-and a b ℓ ∙ both (inPart a ℓ) (inPart b ℓ) (f ℓ) ∙ sym (in-nothing ℓ)))
+  where
+    both : (p q : Bool) → (p ≡ true → ¬ (q ≡ true)) → andb p q ≡ false
+    both false q f = refl
+    both true false f = refl
+    both true true f = absurd (f refl refl)
+
+-- ---- the set of the locations above l, up to n, that pass P, moved down by l
+module _ (P : ℕ → Bool) (n : ℕ) where
+  unfoldable pub built : ℕ → ℕ
+  built l = numOf 2 (n - l) (λ i. pick (P (suc (l + i))) 1 0)
+
+  bit-lt : (b : Bool) → pick b 1 0 < 2
+  bit-lt true = omega arith
+  bit-lt false = omega arith
+
+  pub built-none : built n ≡ 0
+  unfolding built numOf
+  built-none = let e : n - n ≡ 0 = omega arith in rw e
+
+  pub built-more : (l m r : ℕ) → 0 < l → l ≤ n → m ≡ built l → r ≡ pick (P l) 1 0 → 2 * m + r ≡ built (l - 1)
+  unfolding built numOf
+  built-more zero m r h k e f = absurd (not-suc-le-zero h)
+  built-more (suc l) m r h k e f =
+      let z : suc l - 1 ≡ l = omega arith in
+      let s : n - l ≡ suc (n - suc l) = omega arith in
+      let q : _≡_ {A = ℕ → ℕ} (λ i. pick (P (suc (suc l + i))) 1 0) (λ i. pick (P (suc (l + suc i))) 1 0) = fun-ext λ i. ap (λ (j : ℕ). pick (P (suc j)) 1 0) (suc-add l i ∙ sym (add-suc l i)) in
+      rw (z, s, add-zero l) (ap₂ (λ (x y : ℕ). 2 * x + y) (e ∙ ap (numOf 2 (n - suc l)) q) f ∙ omega arith)
+
+  pub built-lt : (l k : ℕ) → n ≤ k → built l < 2 ^ k
+  unfolding built
+  built-lt l k h =
+      lt-of-lt-of-le (numOf-lt 2 (n - l) (λ i. pick (P (suc (l + i))) 1 0) (λ i. bit-lt (P (suc (l + i)))))
+      (pow-le-pow-right {n = 2} two-pos (omega arith))
+
+  pub in-built : (i : ℕ) → inPart (built 0) (suc i) ≡ andb (ltb i n) (P (suc i))
+  unfolding built inPart
+  in-built i = go (decLt i n)
+    where
+      go : Dec (i < n) → inPart (built 0) (suc i) ≡ andb (ltb i n) (P (suc i))
+      go (yes l) =
+          let z : n - 0 ≡ n = omega arith in
+          rw (z, lt-ltb i n l)
+          (ap (λ (x : ℕ). eqb x 1) (digit-num 2 n (λ j. pick (P (suc (0 + j))) 1 0) (λ j. bit-lt (P (suc (0 + j)))) i l ∙ ap (λ (j : ℕ). pick (P (suc j)) 1 0) (zero-add i)) ∙ one-of (P (suc i)))
+      go (no l) = rw (le-ltb i n (omega arith)) (in-past n (built 0) (suc i) (built-lt 0 n (omega arith)) (omega arith))

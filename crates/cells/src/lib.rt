@@ -1,0 +1,194 @@
+// Stacks, heaps and sets of locations, each in one number, so that a part of a heap is a mask away. specs/Cells.antt says
+// which numbers these are.
+ghost use mathlib.Core.Path.{_≡_};
+ghost use mathlib.Core.Bool.{Bool};
+ghost use Prim.Native.Nat.{ℕ, suc, _≤_, _<_, _^_};
+ghost use lib.Bits.{bitAnd, bitXor};
+ghost use Rattle.logic.specs.Heap.{Heap, Named, Empty};
+ghost use Rattle.logic.specs.Holds.{Points, Segment};
+ghost use Rattle.logic.specs.Tests.{pick, inPart};
+ghost use Rattle.logic.specs.Reflect.{Is};
+ghost use Rattle.cells.specs.Cells.{most, full, cells, Placed, Spread, Taken, Unnamed, Touches, Touched, Tabled, Folded, Clear};
+
+// The most locations, and the most variables, that fit in one number.
+pub const MOST: u64 = 8;
+
+// What w has at l.
+pub fn cell(w: u64, l: u64) -> u64
+    requires { ⌜ l ≤ most ⌝ }
+    ensures { λ r. ⌜ r ≡ cells w l ⌝ }
+{
+    if l == 0 {
+        return 0;
+    }
+    (w >> (8 * (l - 1))) % 256
+}
+
+// A heap with d at l and nothing elsewhere.
+pub fn placed(d: u64, l: u64) -> u64
+    requires { ⌜ (d < 256) × (1 ≤ l) × (l ≤ most) ⌝ }
+    ensures { λ r. ⌜ Placed d l r ⌝ }
+{
+    d << (8 * (l - 1))
+}
+
+// A full byte for each location of part m. The product puts bits 0 to 6 into their bytes without a carry; bit 7 would
+// overlap and is put beside them.
+pub fn spread(m: u64) -> u64
+    requires { ⌜ m < full ⌝ }
+    ensures { λ r. ⌜ Spread m r ⌝ }
+{
+    ((((m % 128) * 0x0002_0408_1020_4081) & 0x0001_0101_0101_0101) | ((m / 128) << 56)) * 255
+}
+
+fn flag(yes: bool) -> u64
+    ensures { λ r. ⌜ (r ≡ pick yes 1 0) × (r ≤ 1) ⌝ }
+{
+    if yes { 1 } else { 0 }
+}
+
+// The part that is allocated.
+pub fn taken(w: u64) -> u64
+    ensures { λ r. ⌜ Taken w r ⌝ }
+{
+    let mut m: u64 = 0;
+    let mut l = MOST;
+    while 0 < l {
+        let some = cell(w, l) != 0;
+        l -= 1;
+        m = 2 * m + flag(some);
+    }
+    m
+}
+
+// Bit l.
+fn bit(l: u64) -> u64
+    requires { ⌜ l ≤ most ⌝ }
+    ensures { λ r. ⌜ r ≡ 2 ^ l ⌝ }
+{
+    1 << l
+}
+
+// Of the set u, the location and the value of a cell at l with digit d. The halving drops nil, which is in no set.
+fn touched(u: u64, l: u64, d: u64) -> u64
+    requires { ⌜ (u < full) × (l ≤ most) × (d ≤ suc most) ⌝ }
+    ensures { λ r. ⌜ Touched u l d r ⌝ }
+{
+    if d == 0 {
+        return 0;
+    }
+    ((bit(l) | bit(d - 1)) / 2) & u
+}
+
+// What each cell of w touches of the set u, in the cell's byte.
+pub fn table(u: u64, w: u64) -> u64
+    requires { ⌜ (u < full) × Heap most (cells w) ⌝ }
+    ensures { λ r. ⌜ Tabled u w r ⌝ }
+{
+    if u == 0 {
+        return 0;
+    }
+    let mut t: u64 = 0;
+    let mut l: u64 = 1;
+    while l <= MOST {
+        t = t | placed(touched(u, l, cell(w, l)), l);
+        l += 1;
+    }
+    t
+}
+
+// The union of the sets in t's bytes.
+pub fn fold(t: u64) -> u64
+    ensures { λ r. ⌜ Folded t r ⌝ }
+{
+    let y = t | (t >> 32);
+    let z = y | (y >> 16);
+    (z | (z >> 8)) % 256
+}
+
+// Strong disjointness of the part with mask e from the rest, where t is the table of the whole.
+pub fn parts_apart(t: u64, e: u64) -> bool
+    ensures { λ r. ⌜ Is r (Clear (bitAnd t e) (bitXor t (bitAnd t e))) ⌝ }
+{
+    if t == 0 {
+        return true;
+    }
+    let q = t & e;
+    fold(q) & fold(t ^ q) == 0
+}
+
+// Strong disjointness of one cell from a heap, whose unnamed locations are the set u.
+pub fn cell_apart(u: u64, l: u64, d: u64) -> bool
+    requires { ⌜ (u < full) × (l ≤ most) × (d ≤ suc most) ⌝ }
+    ensures { λ r. ⌜ Is r ((j : ℕ) → Touches l d j → ¬ (inPart u j ≡ Bool.true)) ⌝ }
+{
+    touched(u, l, d) == 0
+}
+
+pub fn is_empty(w: u64) -> bool
+    ensures { λ r. ⌜ Is r (Empty (cells w)) ⌝ }
+{
+    w == 0
+}
+
+pub fn is_points(a: u64, b: u64, w: u64) -> bool
+    requires { ⌜ (a ≤ most) × (b ≤ most) ⌝ }
+    ensures { λ r. ⌜ Is r (Points a b (cells w)) ⌝ }
+{
+    if a == 0 {
+        return false;
+    }
+    w == placed(b + 1, a)
+}
+
+// A list segment of at most p links: each cell that is left behind is taken out, so no location is met twice.
+pub fn is_list(p: u64, a: u64, b: u64, w: u64) -> bool
+    requires { ⌜ (a ≤ most) × Heap most (cells w) ⌝ }
+    ensures { λ r. ⌜ Is r (Segment p a b (cells w)) ⌝ }
+{
+    let mut g = w;
+    let mut x = a;
+    let mut k = p;
+    while 0 < k {
+        if x == b {
+            return is_empty(g);
+        }
+        let d = cell(g, x);
+        if d == 0 {
+            return false;
+        }
+        g = g ^ placed(d, x);
+        x = d - 1;
+        k -= 1;
+    }
+    if x == b { is_empty(g) } else { false }
+}
+
+fn is_named(v: u64, s: u64, l: u64) -> bool
+    requires { ⌜ v ≤ most ⌝ }
+    ensures { λ r. ⌜ Is r (Named v (cells s) l) ⌝ }
+{
+    let mut x: u64 = 0;
+    while x <= v {
+        if cell(s, x) == l {
+            return true;
+        }
+        x += 1;
+    }
+    false
+}
+
+// The locations up to n that are not named.
+pub fn unnamed(v: u64, n: u64, s: u64) -> u64
+    requires { ⌜ (v ≤ most) × (n ≤ most) ⌝ }
+    ensures { λ r. ⌜ Unnamed v n (cells s) r ⌝ }
+{
+    let mut u: u64 = 0;
+    let mut l = n;
+    while 0 < l {
+        let free = !is_named(v, s, l);
+        l -= 1;
+        u = 2 * u + flag(free);
+    }
+    u
+}

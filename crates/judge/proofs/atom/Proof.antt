@@ -1,0 +1,73 @@
+-- `judge::atom` meets its contract. Assumes nothing.
+use mathlib.Core.Path.{refl}
+use borrow.Author.Needs.{needs}
+use Rattle.cells.specs.Heaps.{heap-more}
+use Rattle.judge.specs.Ready.{last-atom, location-few}
+use Rattle.judge.specs.Atoms.{same-there, same-elsewhere, diff-there, diff-elsewhere, points-to, list-from}
+use Rattle.judge.proofs.atom.Statement.{statement}
+use Rattle.judge.proofs.atom.Tie as tie
+
+element-copy-out-cell : tie.Need-element-copy-out-cell
+element-copy-out-cell c = search needs
+
+cell-requires : tie.Need-cell-requires
+cell-requires c κs = search needs
+
+element-copy-out-cell-2 : tie.Need-element-copy-out-cell-2
+element-copy-out-cell-2 c = search needs
+
+cell-requires-2 : tie.Need-cell-requires-2
+cell-requires-2 c κs = search needs
+
+is-empty-requires : tie.Need-is-empty-requires
+is-empty-requires c κs = search needs
+
+is-empty-requires-2 : tie.Need-is-empty-requires-2
+is-empty-requires-2 c κs = search needs
+
+is-points-requires : tie.Need-is-points-requires
+is-points-requires c κs = (location-few _ _ _ (c .before .before .before .before .before .pre .4) (c .before .before .before .before .before .pre .5) _ _ (c .before .before .before .cell .ensures), location-few _ _ _ (c .before .before .before .before .before .pre .4) (c .before .before .before .before .before .pre .5) _ _ (c .before .cell2 .ensures))
+
+element-copy-out-is-list : tie.Need-element-copy-out-is-list
+element-copy-out-is-list c = search needs
+
+is-list-requires : tie.Need-is-list-requires
+is-list-requires c κs = (location-few _ _ _ (c .before .before .before .before .before .before .pre .4) (c .before .before .before .before .before .before .pre .5) _ _ (c .before .before .before .before .cell .ensures), heap-more _ _ _ (c .before .before .before .before .before .before .pre .4) (c .before .before .before .before .before .before .pre .6))
+
+returns : tie.Need-returns
+returns c = same-there _ _ _ _ _ (c .before .before .before .before .before .before .before .pre .5) (c .before .before .before .before .before .before .before .pre .6) _ _ _ _ _ (c .before .before .before .before .before .cell .ensures) (c .before .before .before .cell2 .ensures) _ (c .before .before .match .keys1) (c .before .if1 .taken) (c .is-empty .ensures)
+
+returns-2 : tie.Need-returns-2
+returns-2 c = same-elsewhere _ _ _ _ _ (c .before .before .before .before .before .before .pre .5) (c .before .before .before .before .before .before .pre .6) _ _ _ _ _ (c .before .before .before .before .cell .ensures) (c .before .before .cell2 .ensures) _ (c .before .match .keys1) (c .if1 .left) refl
+
+returns-3 : tie.Need-returns-3
+returns-3 c = diff-there _ _ _ _ _ (c .before .before .before .before .before .before .pre .5) (c .before .before .before .before .before .before .pre .6) _ _ _ _ _ (c .before .before .before .before .cell .ensures) (c .before .before .cell2 .ensures) _ (c .before .match .keys2) (c .if2 .taken) refl
+
+returns-4 : tie.Need-returns-4
+returns-4 c = diff-elsewhere _ _ _ _ _ (c .before .before .before .before .before .before .before .pre .5) (c .before .before .before .before .before .before .before .pre .6) _ _ _ _ _ (c .before .before .before .before .before .cell .ensures) (c .before .before .before .cell2 .ensures) _ (c .before .before .match .keys2) (c .before .if2 .left) (c .is-empty2 .ensures)
+
+returns-5 : tie.Need-returns-5
+returns-5 c = points-to _ _ _ _ _ (c .before .before .before .before .before .before .pre .5) (c .before .before .before .before .before .before .pre .6) _ _ _ _ _ (c .before .before .before .before .cell .ensures) (c .before .before .cell2 .ensures) _ (c .before .match .keys3) (c .is-points .ensures)
+
+returns-6 : tie.Need-returns-6
+returns-6 c = list-from _ _ _ _ _ (c .before .before .before .before .before .before .before .pre .5) (c .before .before .before .before .before .before .before .pre .6) _ _ _ _ _ (c .before .before .before .before .before .cell .ensures) (c .before .before .before .cell2 .ensures) _ (last-atom _ (c .before .before .before .before .before .before .before .pre .0) (c .before .before .before .before .before .before .before .pre .1) (c .before .before .match .rest .0 .0 .1) (c .before .before .match .rest .0 .1) (c .before .before .match .rest .1)) (c .is-list .ensures)
+
+pub atom-spec : {M : Type 1} → statement M
+atom-spec =
+    tie.close
+    (tie.spec
+    element-copy-out-cell
+    cell-requires
+    element-copy-out-cell-2
+    cell-requires-2
+    is-empty-requires
+    is-empty-requires-2
+    is-points-requires
+    element-copy-out-is-list
+    is-list-requires
+    returns
+    returns-2
+    returns-3
+    returns-4
+    returns-5
+    returns-6)

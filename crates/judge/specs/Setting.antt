@@ -1,0 +1,109 @@
+-- What the judge's core is given, and what its functions say of their results. Assumes nothing: these are definitions.
+use mathlib.Core.Path.{_≡_}
+use mathlib.Core.Bool.{Bool, true, false}
+use mathlib.Core.Logic.{_⊎_}
+use mathlib.Core.List.{List}
+use Prim.Native.Nat.{ℕ, suc, _^_, _<_, _≤_}
+use lib.ListN.{getD}
+use Rattle.logic.specs.Heap.{Map, Stack, Heap, Locs, StronglyDisjoint}
+use Rattle.logic.specs.Formula.{Form}
+use Rattle.logic.specs.Table.{Sound, tree}
+use Rattle.logic.specs.Tests.{inPart, union, sepAt}
+use Rattle.logic.specs.Truth.{truth}
+use Rattle.logic.specs.Reflect.{Is}
+use Rattle.cells.specs.Cells.{most, full, cells, Sub, Unnamed, Touches}
+
+-- a setting b has five numbers, the same for every node: v, n, p, the packed stack, and the set of the locations that are not
+-- named
+abbrev pub varsOf : List ℕ → ℕ
+varsOf b = getD b 0 0
+
+abbrev pub locsOf : List ℕ → ℕ
+locsOf b = getD b 1 0
+
+abbrev pub pathOf : List ℕ → ℕ
+pathOf b = getD b 2 0
+
+abbrev pub stackOf : List ℕ → Map
+stackOf b = cells (getD b 3 0)
+
+abbrev pub unnamedOf : List ℕ → ℕ
+unnamedOf b = getD b 4 0
+
+-- as many nodes as a table has room for
+abbrev pub room : ℕ
+room = 64
+
+-- node k of table f can be judged in setting b: the nodes up to it are as they should be, and the setting is right
+pub record Ready (f b : List ℕ) (k : ℕ) : Type 0 where
+  pub inside : k < room
+  pub sound : Sound (varsOf b) f (suc k)
+  pub fewVars : varsOf b ≤ most
+  pub fewLocs : locsOf b ≤ most
+  pub stack : Stack (varsOf b) (locsOf b) (stackOf b)
+  pub unnamed : Unnamed (varsOf b) (locsOf b) (stackOf b) (unnamedOf b)
+
+-- the truth of a formula, and of node k, in setting b
+abbrev pub truthOf : List ℕ → Form → Map → Bool
+truthOf b F h = truth (varsOf b) (locsOf b) (pathOf b) F (stackOf b) h
+
+abbrev pub truthAt : List ℕ → List ℕ → ℕ → Map → Bool
+truthAt f b k h = truthOf b (tree f k) h
+
+-- part m of the heap w serves for node x, and the rest for node y
+abbrev pub servesAt : List ℕ → List ℕ → ℕ → ℕ → ℕ → ℕ → Bool
+servesAt f b x y w m = sepAt (varsOf b) (locsOf b) (stackOf b) (cells w) (truthAt f b x) (truthAt f b y) m
+
+-- r is the lowest number below k that passes F, or the mark that none does
+pub data Chosen (F : ℕ → Bool) (k r : ℕ) : Type 0 where
+  lowest : r < k → F r ≡ true → ((i : ℕ) → i < r → F i ≡ false) → Chosen F k r
+  nothing : r ≡ full → ((i : ℕ) → i < k → F i ≡ false) → Chosen F k r
+
+-- the heap z serves as the one that is added to h: it passes A, and the two together pass B
+pub record Serves (v n : ℕ) (s : Map) (A B : Map → Bool) (h z : Map) : Type 0 where
+  pub heap : Heap n z
+  pub apart : StronglyDisjoint v s z h
+  pub added : A z ≡ true
+  pub whole : B (union z h) ≡ true
+
+-- z and g are the same above location l
+abbrev pub Above : ℕ → Map → Map → Type 0
+Above l z g = (ℓ : ℕ) → l < ℓ → z ℓ ≡ g ℓ
+
+-- some heap serves that is y above location l
+abbrev pub Some : ℕ → ℕ → Map → (Map → Bool) → (Map → Bool) → Map → ℕ → Map → Type 0
+Some v n s A B h l y = (z : Map) × Serves v n s A B h z × Above l z y
+
+-- and has digit d at l
+abbrev pub SomeAt : ℕ → ℕ → Map → (Map → Bool) → (Map → Bool) → Map → ℕ → Map → ℕ → Type 0
+SomeAt v n s A B h l y d = (z : Map) × Serves v n s A B h z × Above l z y × (z l ≡ d)
+
+-- r says whether some heap that is g above location l serves for nodes x and y, with the heap w
+abbrev pub Found : List ℕ → List ℕ → ℕ → ℕ → ℕ → ℕ → ℕ → Bool → Type 0
+Found f b x y w l g r = Is r (Some (varsOf b) (locsOf b) (stackOf b) (truthAt f b x) (truthAt f b y) (cells w) l (cells g))
+
+abbrev pub FoundAt : List ℕ → List ℕ → ℕ → ℕ → ℕ → ℕ → ℕ → ℕ → Bool → Type 0
+FoundAt f b x y w l g d r = Is r (SomeAt (varsOf b) (locsOf b) (stackOf b) (truthAt f b x) (truthAt f b y) (cells w) l (cells g) d)
+
+-- the set met is the unnamed locations of the heap w
+pub record Met (u w met : ℕ) : Type 0 where
+  pub small : met < full
+  pub member : (j : ℕ) → Is (inPart met j) (Locs (cells w) j × (inPart u j ≡ true))
+
+-- g is filled above location l: it has nothing up to l, nothing where w has a cell, and meets w at named locations only
+pub record Filled (n u w met l g : ℕ) : Type 0 where
+  pub upTo : l ≤ n
+  pub heap : Heap n (cells g)
+  pub below : (ℓ : ℕ) → ℓ ≤ l → cells g ℓ ≡ 0
+  pub free : (ℓ : ℕ) → (cells g ℓ ≡ 0) ⊎ (cells w ℓ ≡ 0)
+  pub quiet : (ℓ j : ℕ) → Touches ℓ (cells g ℓ) j → ¬ (inPart met j ≡ true)
+  pub meets : Met u w met
+
+-- no heap that serves, and is y above location l, has a digit below d at l
+abbrev pub Tried : ℕ → ℕ → Map → (Map → Bool) → (Map → Bool) → Map → ℕ → Map → ℕ → Type 0
+Tried v n s A B h l y d = (z : Map) → Serves v n s A B h z → Above l z y → ¬ (z l < d)
+
+-- the trial of parts is at m: it is a subset of the allocated set a, and every lower part fails
+pub record Trying (F : ℕ → Bool) (a m : ℕ) : Type 0 where
+  pub sub : Sub m a
+  pub failed : (i : ℕ) → i < m → F i ≡ false

@@ -1,0 +1,4 @@
+pub mod Packing
+pub mod PackingLaws
+pub mod SameTable
+pub mod Judging

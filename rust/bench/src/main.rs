@@ -1,0 +1,103 @@
+//! Models judged a second, by the proved judge and by the second one, in one run.
+//!
+//! Both are given the same bytes, book and model anew for each call; there are no buffers to clear.
+//! No model fits any of the formulas, so each is judged to the end.
+
+use std::hint::black_box;
+use std::time::Instant;
+
+use cases::made::book;
+
+const BOUNDS: [u8; 3] = [6, 6, 6];
+
+/// The sides take turns at so many models, so that a busy machine slows both alike..
+const TURN: usize = 4_096;
+
+/// .. and judge them so often, of which the fastest time counts.
+const RUNS: usize = 5;
+
+const STACKS: [[u8; 6]; 2] = [[0; 6], [1, 2, 3, 4, 5, 6]];
+
+/// N is ¬(nil = nil).
+const FORMULAS: [(&str, &[[u8; 3]]); 4] = [
+    ("nil ↦ x", &[[3, 0, 1]]),
+    (
+        "(ls(x,y) * ls(y,nil)) ∧ nil ≠ nil",
+        &[[4, 1, 2], [4, 2, 0], [9, 0, 1], [2, 0, 0], [5, 2, 3]],
+    ),
+    (
+        "((N * N) * N) ∧ nil ≠ nil",
+        &[
+            [1, 0, 0],
+            [8, 0, 0],
+            [1, 0, 0],
+            [8, 2, 0],
+            [9, 1, 3],
+            [1, 0, 0],
+            [8, 5, 0],
+            [9, 4, 6],
+            [2, 0, 0],
+            [5, 7, 8],
+        ],
+    ),
+    (
+        "(x ↦ y −⊛ ls(x,nil)) ∧ nil ≠ nil",
+        &[[3, 1, 2], [4, 1, 0], [10, 0, 1], [2, 0, 0], [5, 2, 3]],
+    ),
+];
+
+fn main() {
+    println!("bounds 6 6 6, every heap of a stack, models judged a second");
+    println!(
+        "{:<34} {:<12} {:>12} {:>12} {:>6}",
+        "formula", "stack", "proved", "second", "ratio"
+    );
+    for stack in STACKS {
+        let models = models(stack);
+        for (name, nodes) in FORMULAS {
+            let [proved, second] = rates(&book(BOUNDS, nodes), &models);
+            let stack = stack.map(|location| location.to_string()).join(" ");
+            let ratio = proved / second;
+            println!("{name:<34} {stack:<12} {proved:>12.0} {second:>12.0} {ratio:>6.2}");
+        }
+    }
+}
+
+/// Models judged a second by the proved and by the second judge.
+fn rates(book: &[u8], models: &[[u8; 12]]) -> [f64; 2] {
+    let mut taken = [0.0; 2];
+    for turn in models.chunks(TURN) {
+        let mut fastest = [f64::INFINITY; 2];
+        for _ in 0..RUNS {
+            fastest[0] = seconds(book, turn, |b, m| hollyspool::judge(b, m).number).min(fastest[0]);
+            fastest[1] =
+                seconds(book, turn, |b, m| second::judge::judge(b, m).number).min(fastest[1]);
+        }
+        taken = [taken[0] + fastest[0], taken[1] + fastest[1]];
+    }
+    taken.map(|taken| models.len() as f64 / taken)
+}
+
+/// The time to judge the models, none of which may fit.
+fn seconds(book: &[u8], models: &[[u8; 12]], judge: impl Fn(&[u8], &[u8]) -> u64) -> f64 {
+    let start = Instant::now();
+    for model in models {
+        assert_eq!(judge(black_box(book), black_box(model)), 1, "{model:?}");
+    }
+    start.elapsed().as_secs_f64()
+}
+
+/// The stack with each of its 8^6 heaps, in candidate order.
+fn models(stack: [u8; 6]) -> Vec<[u8; 12]> {
+    (0..1_u32 << 18)
+        .map(|number| {
+            let mut model = [0; 12];
+            model[..6].copy_from_slice(&stack);
+            for (location, cell) in model[6..].iter_mut().enumerate() {
+                let digit = (number >> (3 * location) & 7) as u8;
+                *cell = digit.wrapping_sub(1);
+            }
+            model
+        })
+        .collect()
+}
