@@ -1,15 +1,17 @@
 // The reader of problem books: whether a book is as it should be. Any bytes at all are read.
-use contents::body;
+use contents::part;
 use contents::wide;
 use logic::Answer;
 ghost use mathlib.Core.Path.{_≡_};
-ghost use Prim.Native.Nat.{ℕ, _+_, _*_, _<_, _≤_, _/_};
+ghost use Prim.Native.Nat.{_+_, _*_, _<_, _≤_, _/_};
 ghost use lib.ListN.{length};
 ghost use Rattle.logic.specs.Numbers.{answer};
 ghost use Rattle.logic.specs.Checks.{Answers, upto};
 ghost use Rattle.logic.specs.CheckLaws.{Yes};
+ghost use lib.Dec.{eqb};
+ghost use Rattle.logic.specs.Tests.{pick};
 ghost use Rattle.logic.specs.Reflect.{Is};
-ghost use Rattle.logic.specs.Table.{opOf, kindOf, Operand, OperatorOk, OperandOk, uses, usesOn};
+ghost use Rattle.logic.specs.Table.{opOf, kindOf, Operand, OperatorOk, OperandOk, Sound, uses, usesOn};
 ghost use Rattle.logic.specs.Book.{bodyChecks, nodeChecks, useChecks, nodes as nodesIn, root, Reads};
 
 // What the operands a and b of operators 1 to 10 are: 0 zero, 1 a variable, 2 a child.
@@ -127,19 +129,11 @@ fn nodes(f: &[u8], v: u8) -> Answer
     answer_of(logic::YES, 0)
 }
 
-// How often operand a (side 0) or b (side 1) of node j, a connective, is the child k: once or not at all.
-fn uses_on(f: &[u8], j: usize, k: usize, op: u8, side: usize) -> usize
-    requires { ⌜ (3 * j + (1 + side) < length (now f)) × (op ≡ opOf (now f) j) × (1 ≤ op) × (op ≤ 10) × (side < 2) ⌝ }
-    ensures { λ r. ⌜ (r ≡ usesOn (now (f .entry)) j k side) × (r ≤ 1) ⌝ }
+// Once where x is the child k, and else not at all.
+fn once(x: u8, k: usize) -> usize
+    ensures { λ r. ⌜ (r ≡ pick (eqb x k) 1 0) × (r ≤ 1) ⌝ }
 {
-    if kind(op, side) != 2 {
-        return 0;
-    }
-    if wide(f[3 * j + (1 + side)]) == k {
-        1
-    } else {
-        0
-    }
+    if wide(x) == k { 1 } else { 0 }
 }
 
 // How often node j has the child k.
@@ -149,19 +143,20 @@ fn uses_by(f: &[u8], j: usize, k: usize) -> usize
 {
     let op = f[3 * j];
     match op {
-        5..=10 => uses_on(f, j, k, op, 0) + uses_on(f, j, k, op, 1),
-        _ => 0,
+        1..=4 => 0,
+        8 => once(f[3 * j + 1], k),
+        _ => once(f[3 * j + 1], k) + once(f[3 * j + 2], k),
     }
 }
 
-// How often the nodes have the child k.
-fn uses_of(f: &[u8], k: usize) -> usize
-    requires { ⌜ (length (now f) < 4096) × ((j : ℕ) → j < nodesIn (now f) → OperatorOk (now f) j) ⌝ }
+// How often the nodes have the child k. Those up to k have none that is so high.
+fn uses_of(f: &[u8], v: u8, k: usize) -> usize
+    requires { ⌜ (length (now f) < 4096) × Sound v (now f) (nodesIn (now f)) × (k < nodesIn (now f)) ⌝ }
     ensures { λ r. ⌜ r ≡ uses (now (f .entry)) (nodesIn (now (f .entry))) k ⌝ }
 {
     let n = f.len() / 3;
     let mut count: usize = 0;
-    let mut j: usize = 0;
+    let mut j = k + 1;
     while j < n {
         count += uses_by(f, j, k);
         j += 1;
@@ -170,15 +165,15 @@ fn uses_of(f: &[u8], k: usize) -> usize
 }
 
 // Every node but the root is the child of exactly one node, once.
-fn one_parent(f: &[u8]) -> Answer
-    requires { ⌜ (0 < nodesIn (now f)) × (length (now f) < 4096) × ((j : ℕ) → j < nodesIn (now f) → OperatorOk (now f) j) ⌝ }
+fn one_parent(f: &[u8], v: u8) -> Answer
+    requires { ⌜ (0 < nodesIn (now f)) × (length (now f) < 4096) × Sound v (now f) (nodesIn (now f)) ⌝ }
     ensures { λ r. ⌜ Answers (upto (useChecks (now (f .entry))) (root (now (f .entry)))) Yes r ⌝ }
 {
     let last = f.len() / 3 - 1;
     let mut left = last;
     while 0 < left {
         let k = last - left;
-        if uses_of(f, k) != 1 {
+        if uses_of(f, v, k) != 1 {
             return answer_of(logic::TREE_SHAPE, k);
         }
         left -= 1;
@@ -194,15 +189,16 @@ pub fn read(book: &[u8]) -> Answer
     if first != logic::YES {
         return answer_of(first, 0);
     }
-    let b = body(book, 0);
-    let f = body(book, 1);
+    let b = part(book, 0);
+    let f = part(book, 1);
     let second = bodies(b, f);
     if second != logic::YES {
         return answer_of(second, 0);
     }
-    let third = nodes(f, b[0]);
+    let v = b[0];
+    let third = nodes(f, v);
     if third.number != logic::YES {
         return third;
     }
-    one_parent(f)
+    one_parent(f, v)
 }

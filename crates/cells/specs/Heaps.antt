@@ -1,21 +1,21 @@
 -- Laws of packed heaps: the empty heap, one cell, a cell taken out or put in, a part and the rest, two heaps together. Assumes
 -- nothing.
-use mathlib.Core.Path.{_≡_, refl, sym, subst, _∙_, ap, ap₂, fun-ext}
+use mathlib.Core.Path.{_≡_, refl, sym, _∙_, ap, fun-ext}
 use mathlib.Core.Bool.{Bool, true, false}
 use mathlib.Core.Logic.{_⊎_, inl, inr}
-use Prim.Native.Nat.{ℕ, zero, suc, _<_, _≤_}
+use Prim.Native.Nat.{ℕ, suc, _<_, _≤_}
 use native.Mathlib.Nat.{mod-eq-of-lt}
 use native.Mathlib.Decide.{ℕ-discrete}
 use native.Mathlib.Omega.{arith}
 use lib.Dec.{eqb}
 use lib.Bits.{bitAnd, bitOr, bitXor, and-zero-r, or-zero-r, xor-zero-r, xor-self, and-mask}
 use borrow.Author.Tests.{eq-eqb, ne-eqb}
-use Rattle.logic.specs.Heap.{Map, Heap, Allocated, Empty, Parts}
+use Rattle.logic.specs.Heap.{Map, Heap, Empty, Parts}
 use Rattle.logic.specs.Holds.{Points}
 use Rattle.logic.specs.Tests.{pick, inPart, part, rest, union, without}
 use Rattle.logic.specs.Reflect.{Is, false-true, is-iff, is-eq, same-of-not}
 use Rattle.logic.specs.Agree.{part-parts}
-use Rattle.cells.specs.Cells.{most, word, cells, Placed, Spread}
+use Rattle.cells.specs.Cells.{word, cells, Placed, Spread}
 use Rattle.cells.specs.Packing.{cells-nil, cells-zero, cells-lt, same-cells, cells-and, cells-or, cells-xor}
 
 -- whether a packed heap is empty, as code works it out

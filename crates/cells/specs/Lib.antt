@@ -1,9 +1,12 @@
 pub mod Cells
+pub mod Loops
 pub mod Bits
 pub mod Sets
 pub mod Subsets
 pub mod Packing
-pub mod Built
+pub mod Taken
+pub mod Unnamed
 pub mod Heaps
 pub mod Lists
 pub mod Tables
+pub mod Sources

@@ -1,6 +1,6 @@
 -- Laws of a list segment as code walks it. Assumes nothing.
-use mathlib.Core.Path.{_≡_, refl, sym, subst, _∙_, ap}
-use mathlib.Core.Bool.{Bool, true, false}
+use mathlib.Core.Path.{_≡_, refl, sym, subst, _∙_}
+use mathlib.Core.Bool.{Bool, false}
 use Prim.Native.Nat.{ℕ, zero, suc, _-_, _<_, _≤_}
 use native.Mathlib.Nat.{not-suc-le-zero}
 use native.Mathlib.Numerals.{sub-one}
@@ -10,10 +10,11 @@ use borrow.Author.Tests.{eq-eqb, ne-eqb}
 use Rattle.logic.specs.Heap.{Map, Heap, Empty}
 use Rattle.logic.specs.Holds.{Segment}
 use Rattle.logic.specs.Tests.{empty, without, chain}
-use Rattle.logic.specs.Reflect.{Is, is-iff}
+use Rattle.logic.specs.Reflect.{Is}
 use Rattle.logic.specs.Agree.{is-empty}
 use Rattle.logic.specs.Chains.{without-heap, is-segment}
 use Rattle.cells.specs.Cells.{most, cells, Placed}
+use Rattle.cells.specs.Loops.{Walk}
 use Rattle.cells.specs.Sets.{is-same}
 use Rattle.cells.specs.Packing.{cells-nil}
 use Rattle.cells.specs.Heaps.{cut-is}
@@ -37,12 +38,6 @@ chain-step : (n k a b : ℕ) (h : Map) → 0 < k → ¬ (a ≡ b) → ¬ (h a �
 unfolding chain
 chain-step n zero a b h l e z = absurd (not-suc-le-zero l)
 chain-step n (suc k) a b h l e z = rw (ne-eqb a b e, ne-eqb (h a) 0 z, sub-one, sub-one)
-
--- what is left of the segment from a to b over w, of at most p links, is one from x to b over g, of at most k
-pub record Walk (p a b w k x g : ℕ) : Type 0 where
-  pub same : chain most k x b (cells g) ≡ chain most p a b (cells w)
-  pub low : x ≤ most
-  pub heap : Heap most (cells g)
 
 module _ (p a b w : ℕ) (kw : Heap most (cells w)) where
   by-chain : (r : Bool) → r ≡ chain most p a b (cells w) → Is r (Segment p a b (cells w))

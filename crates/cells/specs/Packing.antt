@@ -1,13 +1,13 @@
 -- Laws of packed numbers: how code reads and writes a field, and the bit operations field by field. Assumes nothing.
 use mathlib.Core.Path.{_≡_, refl, sym, subst, _∙_, ap}
-use mathlib.Core.Bool.{Bool, true, false}
-use Prim.Native.Nat.{ℕ, zero, suc, _+_, _*_, _-_, _/_, _%_, _^_, _<_, _≤_}
-use native.Mathlib.Nat.{not-suc-le-zero, one-le-pow, pow-le-pow-right, pow-succ', le-of-suc-le-suc, lt-of-lt-of-le, mod-eq-of-lt, add-zero}
+use mathlib.Core.Bool.{Bool, true}
+use Prim.Native.Nat.{ℕ, zero, suc, _*_, _-_, _/_, _%_, _^_, _<_, _≤_}
+use native.Mathlib.Nat.{not-suc-le-zero, one-le-pow, pow-le-pow-right, pow-succ', le-of-suc-le-suc, lt-of-le-of-lt, lt-of-lt-of-le, mod-eq-of-lt, add-zero, one-mul}
 use native.Mathlib.Decide.{decLt, ℕ-discrete}
 use native.Mathlib.Omega.{arith}
 use lib.Arith.{digits-lt}
 use lib.Dec.{eqb, ltb}
-use lib.Bits.{bitAnd, bitOr, bitXor, and-le-r, and-zero-r, xor-zero-r, xor-self, and-mask}
+use lib.Bits.{bitAnd, bitOr, bitXor}
 use borrow.Author.Tests.{eq-eqb, ne-eqb}
 use Rattle.logic.specs.Tests.{andb, digit, pick, all, inPart}
 use Rattle.logic.specs.Digits.{digit-lt}
@@ -89,6 +89,9 @@ placed-law d (suc x) h n m ℓ =
     go : (ℓ : ℕ) → cells (d * 256 ^ x) ℓ ≡ pick (eqb ℓ (suc x)) d 0
     go zero = rw (ne-eqb 0 (suc x) (λ e. absurd (omega arith)))
     go (suc i) = digit-placed 256 d x i h ∙ ap (λ (b : Bool). pick b d 0) (same-suc i x)
+
+pub bit-law : (l : ℕ) → l ≤ suc most → (1 * 2 ^ l) % word ≡ 2 ^ l
+bit-law l h = rw (one-mul (2 ^ l)) (mod-eq-of-lt (lt-of-le-of-lt (pow-le-pow-right {n = 2} (omega arith) h) (omega arith)))
 
 -- spread's product, mask and product
 abbrev spreadOf : ℕ → ℕ

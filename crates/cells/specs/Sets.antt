@@ -1,7 +1,7 @@
 -- Laws of sets of locations: the members of a meet and of a union, equal sets, and a set built from its highest member down.
 -- Assumes nothing.
 use mathlib.Core.Path.{_≡_, refl, sym, subst, _∙_, ap, ap₂, fun-ext}
-use mathlib.Core.Bool.{Bool, true, false, not}
+use mathlib.Core.Bool.{Bool, true, false}
 use Prim.Native.Nat.{ℕ, zero, suc, zero-le, _+_, _*_, _-_, _/_, _^_, _<_, _≤_}
 use native.Mathlib.Nat.{not-suc-le-zero, pow-suc, pow-zero, pow-le-pow-right, le-of-suc-le-suc, lt-of-le-of-lt, lt-of-lt-of-le, div-lt-iff-lt-mul, add-zero, add-suc, suc-add, zero-add, one-mul}
 use native.Mathlib.Decide.{decLt}
@@ -12,6 +12,7 @@ use borrow.Author.Tests.{eqb-true, eqb-false, lt-ltb, le-ltb}
 use Rattle.logic.specs.Tests.{andb, orb, pick, digit, inPart}
 use Rattle.logic.specs.Digits.{numOf, numOf-lt, digit-num, digit-lt}
 use Rattle.logic.specs.Reflect.{Is, false-true, is-iff, is-eq}
+use Rattle.cells.specs.Loops.{built}
 use Rattle.cells.specs.Bits.{digit-zero, digit-past, same-digits, digit-and, digit-or, digit-placed}
 
 -- two tests of one fact are equal
@@ -49,6 +50,10 @@ in-or a b zero = refl
 in-or a b (suc i) =
     ap (λ (q : ℕ). eqb q 1) (digit-or 1 a b i) ∙ or-bits (digit 2 a i) (digit 2 b i) (digit-lt 2 a i two-pos) (digit-lt 2 b i two-pos)
 
+pub in-nil : (m : ℕ) → inPart m 0 ≡ false
+unfolding inPart
+in-nil m = refl
+
 pub in-nothing : (ℓ : ℕ) → inPart 0 ℓ ≡ false
 unfolding inPart
 in-nothing zero = refl
@@ -64,13 +69,16 @@ one-of : (b : Bool) → eqb (pick b 1 0) 1 ≡ b
 one-of true = refl
 one-of false = refl
 
+-- the set that is one bit
+pub in-pow : (l i : ℕ) → inPart (2 ^ l) (suc i) ≡ eqb i l
+unfolding inPart
+in-pow l i =
+    ap (λ (q : ℕ). eqb (digit 2 q i) 1) (sym (one-mul (2 ^ l))) ∙ ap (λ (q : ℕ). eqb q 1) (digit-placed 2 1 l i (omega arith)) ∙ one-of (eqb i l)
+
 -- the set of one location; that of nil is empty
 pub in-just : (l i : ℕ) → inPart (2 ^ l / 2) (suc i) ≡ eqb (suc i) l
 unfolding inPart digit
-in-just l i =
-    ap (λ (q : ℕ). eqb (digit 2 q (suc i)) 1) (sym (one-mul (2 ^ l)))
-    ∙ ap (λ (q : ℕ). eqb q 1) (digit-placed 2 1 l (suc i) (omega arith))
-    ∙ one-of (eqb (suc i) l)
+in-just l i = in-pow l (suc i)
 
 no-one : (x : ℕ) → x < 2 → eqb x 1 ≡ false → x ≡ 0
 no-one zero l e = refl
@@ -119,20 +127,17 @@ is-meet-nothing k a b l =
     both true false f = refl
     both true true f = absurd (f refl refl)
 
--- ---- the set of the locations above l, up to n, that pass P, moved down by l
+-- ---- a set that is built from its highest member down
 module _ (P : ℕ → Bool) (n : ℕ) where
-  unfoldable pub built : ℕ → ℕ
-  built l = numOf 2 (n - l) (λ i. pick (P (suc (l + i))) 1 0)
-
   bit-lt : (b : Bool) → pick b 1 0 < 2
   bit-lt true = omega arith
   bit-lt false = omega arith
 
-  pub built-none : built n ≡ 0
+  pub built-none : built P n n ≡ 0
   unfolding built numOf
   built-none = let e : n - n ≡ 0 = omega arith in rw e
 
-  pub built-more : (l m r : ℕ) → 0 < l → l ≤ n → m ≡ built l → r ≡ pick (P l) 1 0 → 2 * m + r ≡ built (l - 1)
+  pub built-more : (l m r : ℕ) → 0 < l → l ≤ n → m ≡ built P n l → r ≡ pick (P l) 1 0 → 2 * m + r ≡ built P n (l - 1)
   unfolding built numOf
   built-more zero m r h k e f = absurd (not-suc-le-zero h)
   built-more (suc l) m r h k e f =
@@ -141,19 +146,19 @@ module _ (P : ℕ → Bool) (n : ℕ) where
       let q : _≡_ {A = ℕ → ℕ} (λ i. pick (P (suc (suc l + i))) 1 0) (λ i. pick (P (suc (l + suc i))) 1 0) = fun-ext λ i. ap (λ (j : ℕ). pick (P (suc j)) 1 0) (suc-add l i ∙ sym (add-suc l i)) in
       rw (z, s, add-zero l) (ap₂ (λ (x y : ℕ). 2 * x + y) (e ∙ ap (numOf 2 (n - suc l)) q) f ∙ omega arith)
 
-  pub built-lt : (l k : ℕ) → n ≤ k → built l < 2 ^ k
+  pub built-lt : (l k : ℕ) → n ≤ k → built P n l < 2 ^ k
   unfolding built
   built-lt l k h =
       lt-of-lt-of-le (numOf-lt 2 (n - l) (λ i. pick (P (suc (l + i))) 1 0) (λ i. bit-lt (P (suc (l + i)))))
       (pow-le-pow-right {n = 2} two-pos (omega arith))
 
-  pub in-built : (i : ℕ) → inPart (built 0) (suc i) ≡ andb (ltb i n) (P (suc i))
+  pub in-built : (i : ℕ) → inPart (built P n 0) (suc i) ≡ andb (ltb i n) (P (suc i))
   unfolding built inPart
   in-built i = go (decLt i n)
     where
-      go : Dec (i < n) → inPart (built 0) (suc i) ≡ andb (ltb i n) (P (suc i))
+      go : Dec (i < n) → inPart (built P n 0) (suc i) ≡ andb (ltb i n) (P (suc i))
       go (yes l) =
           let z : n - 0 ≡ n = omega arith in
           rw (z, lt-ltb i n l)
           (ap (λ (x : ℕ). eqb x 1) (digit-num 2 n (λ j. pick (P (suc (0 + j))) 1 0) (λ j. bit-lt (P (suc (0 + j)))) i l ∙ ap (λ (j : ℕ). pick (P (suc j)) 1 0) (zero-add i)) ∙ one-of (P (suc i)))
-      go (no l) = rw (le-ltb i n (omega arith)) (in-past n (built 0) (suc i) (built-lt 0 n (omega arith)) (omega arith))
+      go (no l) = rw (le-ltb i n (omega arith)) (in-past n (built P n 0) (suc i) (built-lt 0 n (omega arith)) (omega arith))

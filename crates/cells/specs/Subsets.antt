@@ -1,13 +1,12 @@
 -- From one subset of a set of bits to the next, upward: (s + (2^k - a)) & a is the least subset above s. Assumes nothing.
-use mathlib.Core.Path.{_≡_, refl, sym, subst, _∙_, ap, ap₂}
-use mathlib.Core.Logic.{_⊎_, inl, inr, ⊎-elim}
+use mathlib.Core.Path.{_≡_, refl, sym, _∙_, ap, ap₂}
 use mathlib.Core.Bool.{Bool, true, false}
-use Prim.Native.Nat.{ℕ, zero, suc, zero-le, _+_, _*_, _-_, _/_, _%_, _^_, _<_, _≤_, min}
+use Prim.Native.Nat.{ℕ, zero, suc, _+_, _*_, _-_, _/_, _%_, _^_, _<_, _≤_, min}
 use native.Mathlib.Nat.{not-suc-le-zero, pow-suc, pow-zero, div-add-mod', mod-lt, le-trans, le-of-eq, lt-of-le-of-lt}
 use native.Mathlib.Decide.{decLt}
 use native.Mathlib.Omega.{arith}
 use lib.Arith.{digits-div, digits-mod}
-use lib.Bits.{bitAnd, and-step, and-shr, and-mod, and-zero-r, and-le-r, and-le-l}
+use lib.Bits.{bitAnd, and-step, and-shr, and-mod, and-zero-r, and-le-r}
 use Rattle.logic.specs.Tests.{andb, inPart}
 use Rattle.cells.specs.Cells.{Sub}
 use Rattle.cells.specs.Sets.{in-and, same-set}

@@ -3,20 +3,21 @@
 use mathlib.Core.Path.{_≡_, refl, sym, subst, _∙_, ap, ap₂}
 use mathlib.Core.Bool.{Bool, true, false}
 use mathlib.Core.Logic.{_⊎_, inl, inr, ⊎-elim}
-use Prim.Native.Nat.{ℕ, zero, suc, _+_, _-_, _/_, _%_, _^_, _<_, _≤_}
-use native.Mathlib.Nat.{not-suc-le-zero, eq-or-lt-of-le, le-of-suc-le-suc, lt-of-le-of-lt, mod-lt}
+use Prim.Native.Nat.{ℕ, zero, suc, _+_, _-_, _/_, _%_, _^_, _<_}
+use native.Mathlib.Nat.{lt-of-le-of-lt, mod-lt}
 use native.Mathlib.Decide.{decLt, ℕ-discrete}
 use native.Mathlib.Omega.{arith}
 use lib.Dec.{eqb}
-use lib.Bits.{bitAnd, bitOr, bitXor, and-le-r, or-shr, and-zero-l, and-self}
+use lib.Bits.{bitAnd, bitOr, bitXor, and-le-r, or-shr, and-zero-l}
 use borrow.Author.Tests.{eq-eqb, ne-eqb}
-use Rattle.logic.specs.Heap.{Map, Heap, Allocated, Value, Locs, Named, StronglyDisjoint, Parts}
+use Rattle.logic.specs.Heap.{Map, Heap, Locs, StronglyDisjoint}
 use Rattle.logic.specs.Tests.{andb, orb, pick, digit, inPart, part, rest, named}
 use Rattle.logic.specs.Reflect.{Is, false-true, is-iff, is-self, is-eq, is-and, is-or, decided}
 use Rattle.logic.specs.Agree.{locs-low, is-named}
 use Rattle.cells.specs.Cells.{most, full, word, cells, Placed, Spread, Unnamed, Touches, Touched, Tabled, Among, Folded, Clear}
+use Rattle.cells.specs.Loops.{Tabling}
 use Rattle.cells.specs.Bits.{digit-shr}
-use Rattle.cells.specs.Sets.{in-and, in-or, in-nothing, in-just, is-meet-nothing}
+use Rattle.cells.specs.Sets.{in-nil, in-and, in-or, in-nothing, in-just, is-meet-nothing}
 use Rattle.cells.specs.Packing.{cells-nil, cells-zero, cells-past, cells-or}
 use Rattle.cells.specs.Heaps.{part-is, rest-is}
 
@@ -32,10 +33,6 @@ locs-touches h j q = ⊎-elim (λ a. (j, inl (a, refl))) (λ e. (e .0, inr (e .1
 -- no cell, nothing touched
 pub touches-nothing : (ℓ j : ℕ) → ¬ Touches ℓ 0 j
 touches-nothing ℓ j t = ⊎-elim (λ q. q .0 refl) (λ (e : 0 ≡ suc j). omega arith) t
-
-in-nil : (u : ℕ) → inPart u 0 ≡ false
-unfolding inPart
-in-nil u = refl
 
 in-half : (a b i : ℕ) → inPart (bitOr a b / 2) (suc i) ≡ orb (inPart (a / 2) (suc i)) (inPart (b / 2) (suc i))
 in-half a b i = ap (λ (x : ℕ). inPart x (suc i)) (or-shr a b 1) ∙ in-or (a / 2) (b / 2) (suc i)
@@ -75,18 +72,7 @@ touched-law u ℓ d h nz = record { small = lt-of-le-of-lt (and-le-r (bitOr (2 ^
         (sym (in-and (bitOr (2 ^ ℓ) (2 ^ (d - 1)) / 2) u (suc i) ∙ ap (λ (b : Bool). andb b (inPart u (suc i))) (in-half (2 ^ ℓ) (2 ^ (d - 1)) i ∙ ap₂ orb (in-just ℓ i) (in-just (d - 1) i))))
         (is-and (orb (eqb (suc i) ℓ) (eqb (suc i) (d - 1))) (inPart u (suc i)) (is-touch i) (is-self (inPart u (suc i))))
 
--- whether a cell touches nothing of a set, as code works it out
-pub is-touch-nothing : (u ℓ d r : ℕ) → Touched u ℓ d r → Is (eqb r 0) ((j : ℕ) → Touches ℓ d j → ¬ (inPart u j ≡ true))
-is-touch-nothing u ℓ d r t =
-    is-iff (subst (λ (x : ℕ). Is (eqb x 0) ((j : ℕ) → inPart r j ≡ true → ¬ (inPart r j ≡ true))) (and-self r) (is-meet-nothing most r r (t .small)))
-    (λ f j p q. let i = t .member j .from (p, q) in f j i i)
-    (λ f j i. absurd (f j (t .member j .to i .0) (t .member j .to i .1)))
-
 -- ---- the table of all cells
-
--- t has the sets of w's cells below l, and nothing from l on
-unfoldable pub Tabling : ℕ → ℕ → ℕ → ℕ → Type 0
-Tabling u w l t = (ℓ j : ℕ) → Is (inPart (cells t ℓ) j) ((ℓ < l) × (Touches ℓ (cells w ℓ) j × (inPart u j ≡ true)))
 
 in-no-cell : (ℓ j : ℕ) → inPart (cells 0 ℓ) j ≡ false
 in-no-cell ℓ j = ap (λ (x : ℕ). inPart x j) (cells-zero ℓ) ∙ in-nothing j
@@ -270,7 +256,3 @@ module _ (v n u : ℕ) (s : Map) (un : Unnamed v n s u) where
       is-iff i
       (λ c. meets-disjoint (cells g) (cells h) kg free (λ m. c (m .0) (locs-among g t (m .0) tg (m .1) (m .3)) (locs-among h q (m .0) th (m .2) (m .3))))
       (λ d j a b. let p = among-locs g t j tg a in disjoint-meets (cells g) (cells h) d (j, p .0, among-locs h q j th b .0, p .1))
-
-  -- the locations of a heap's table are its unnamed ones
-  pub is-met : (w t r j : ℕ) → Tabled u w t → Folded t r → Is (inPart r j) (Locs (cells w) j × (inPart u j ≡ true))
-  is-met w t r j k f = is-iff (f .member j) (among-locs w t j k) (λ q. locs-among w t j k (q .0) (q .1))

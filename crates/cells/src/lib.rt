@@ -1,14 +1,13 @@
 // Stacks, heaps and sets of locations, each in one number, so that a part of a heap is a mask away. specs/Cells.antt says
 // which numbers these are.
 ghost use mathlib.Core.Path.{_≡_};
-ghost use mathlib.Core.Bool.{Bool};
-ghost use Prim.Native.Nat.{ℕ, suc, _≤_, _<_, _^_};
+ghost use Prim.Native.Nat.{suc, _≤_, _<_, _^_};
 ghost use lib.Bits.{bitAnd, bitXor};
 ghost use Rattle.logic.specs.Heap.{Heap, Named, Empty};
 ghost use Rattle.logic.specs.Holds.{Points, Segment};
-ghost use Rattle.logic.specs.Tests.{pick, inPart};
+ghost use Rattle.logic.specs.Tests.{pick};
 ghost use Rattle.logic.specs.Reflect.{Is};
-ghost use Rattle.cells.specs.Cells.{most, full, cells, Placed, Spread, Taken, Unnamed, Touches, Touched, Tabled, Folded, Clear};
+ghost use Rattle.cells.specs.Cells.{most, full, cells, Placed, Spread, Taken, Unnamed, Touched, Tabled, Folded, Clear, Values, Met, Source, SourceBelow, Target};
 
 // The most locations, and the most variables, that fit in one number.
 pub const MOST: u64 = 8;
@@ -47,23 +46,21 @@ fn flag(yes: bool) -> u64
     if yes { 1 } else { 0 }
 }
 
-// The part that is allocated.
+// The part that is allocated, without a loop. A byte that is not 0 carries into its top bit; each product then puts the top
+// bits of four bytes side by side.
 pub fn taken(w: u64) -> u64
+    requires { ⌜ Heap most (cells w) ⌝ }
     ensures { λ r. ⌜ Taken w r ⌝ }
 {
-    let mut m: u64 = 0;
-    let mut l = MOST;
-    while 0 < l {
-        let some = cell(w, l) != 0;
-        l -= 1;
-        m = 2 * m + flag(some);
-    }
-    m
+    let tops = (w + 0x7f7f_7f7f_7f7f_7f7f) & 0x8080_8080_8080_8080;
+    let low = (((tops % 0x1_0000_0000) * 0x0020_4081) >> 28) % 16;
+    let high = (((tops >> 32) * 0x0020_4081) >> 28) % 16;
+    low + 16 * high
 }
 
 // Bit l.
 fn bit(l: u64) -> u64
-    requires { ⌜ l ≤ most ⌝ }
+    requires { ⌜ l ≤ suc most ⌝ }
     ensures { λ r. ⌜ r ≡ 2 ^ l ⌝ }
 {
     1 << l
@@ -117,12 +114,62 @@ pub fn parts_apart(t: u64, e: u64) -> bool
     fold(q) & fold(t ^ q) == 0
 }
 
-// Strong disjointness of one cell from a heap, whose unnamed locations are the set u.
-pub fn cell_apart(u: u64, l: u64, d: u64) -> bool
-    requires { ⌜ (u < full) × (l ≤ most) × (d ≤ suc most) ⌝ }
-    ensures { λ r. ⌜ Is r ((j : ℕ) → Touches l d j → ¬ (inPart u j ≡ Bool.true)) ⌝ }
+// The set of w's values. Digit d is noted in bit d, so the two lowest bits are for no value and for nil's.
+fn values(w: u64) -> u64
+    requires { ⌜ Heap most (cells w) ⌝ }
+    ensures { λ r. ⌜ Values w r ⌝ }
 {
-    touched(u, l, d) == 0
+    let mut x = w;
+    let mut v: u64 = 0;
+    while x != 0 {
+        v = v | bit(x % 256);
+        x = x / 256;
+    }
+    v / 4
+}
+
+// Those of the set u that are locations of w: where u is the unnamed ones, no cell that is added to w may touch them.
+pub fn met(u: u64, w: u64) -> u64
+    requires { ⌜ (u < full) × Heap most (cells w) ⌝ }
+    ensures { λ r. ⌜ Met u w r ⌝ }
+{
+    if u == 0 {
+        return 0;
+    }
+    (values(w) | taken(w)) & u
+}
+
+fn is_source(w: u64, met: u64, l: u64) -> bool
+    requires { ⌜ (1 ≤ l) × (l ≤ most) ⌝ }
+    ensures { λ r. ⌜ Is r (Source w met l) ⌝ }
+{
+    if cell(w, l) != 0 {
+        return false;
+    }
+    (met >> (l - 1)) % 2 == 0
+}
+
+// The last location up to `top` at which a cell may be added to w, or 0.
+pub fn source_below(w: u64, met: u64, top: u64) -> u64
+    requires { ⌜ top ≤ most ⌝ }
+    ensures { λ r. ⌜ SourceBelow w met top r ⌝ }
+{
+    let mut l = top;
+    while 0 < l {
+        if is_source(w, met, l) {
+            return l;
+        }
+        l -= 1;
+    }
+    0
+}
+
+// Whether an added cell may have digit d.
+pub fn is_target(met: u64, d: u64) -> bool
+    requires { ⌜ (met < full) × (d ≤ suc most) ⌝ }
+    ensures { λ r. ⌜ Is r (Target met d) ⌝ }
+{
+    ((4 * met) >> d) % 2 == 0
 }
 
 pub fn is_empty(w: u64) -> bool

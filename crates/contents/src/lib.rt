@@ -5,7 +5,7 @@ ghost use lib.ListN.{length};
 ghost use Rattle.logic.specs.Numbers.{answer};
 ghost use Rattle.logic.specs.Checks.{Answers};
 ghost use Rattle.logic.specs.CheckLaws.{Yes};
-ghost use Rattle.logic.specs.Book.{word, contentsChecks, Body, Placed};
+ghost use Rattle.logic.specs.Book.{word, offset, size, stretch, contentsChecks, Given, Body, Placed};
 
 // Where a body stands in the book.
 #[repr(C)]
@@ -61,6 +61,18 @@ pub fn number(book: &[u8]) -> u64
     logic::YES
 }
 
+// Entry 0's or entry 1's stretch, of contents that are as stated.
+fn row_of(book: &[u8], entry: u64) -> Stretch
+    requires { ⌜ Given (now book) entry ⌝ }
+    ensures { λ r. ⌜ (r .start ≡ offset (now (book .entry)) entry) × (r .length ≡ size (now (book .entry)) entry) ⌝ }
+{
+    let row = 1 + 5 * (entry as usize);
+    Stretch {
+        start: word_at(book, row + 1) as u64,
+        length: word_at(book, row + 3) as u64,
+    }
+}
+
 // The stretch of an entry's body; start 0 and length 0 where there is none.
 pub fn placed(book: &[u8], entry: u64) -> Stretch
     ensures { λ r. ⌜ Placed (now (book .entry)) entry (r .start) (r .length) ⌝ }
@@ -77,11 +89,7 @@ pub fn placed(book: &[u8], entry: u64) -> Stretch
             length: 0,
         };
     }
-    let row = 1 + 5 * (entry as usize);
-    Stretch {
-        start: word_at(book, row + 1) as u64,
-        length: word_at(book, row + 3) as u64,
-    }
+    row_of(book, entry)
 }
 
 fn end_of(at: Stretch) -> usize
@@ -91,12 +99,26 @@ fn end_of(at: Stretch) -> usize
     at.start as usize + at.length as usize
 }
 
+// Entry 0's or entry 1's body, of contents that are as stated.
+pub fn part(book: &[u8], entry: u64) -> &[u8]
+    requires { ⌜ Given (now book) entry ⌝ }
+    ensures { λ r. ⌜ now r ≡ stretch (now (book .entry)) entry ⌝ }
+{
+    let at = row_of(book, entry);
+    let start = at.start as usize;
+    let end = end_of(at);
+    &book[start..end]
+}
+
 // The body of an entry, as that stretch of the caller's bytes; an empty one where there is none.
 pub fn body(book: &[u8], entry: u64) -> &[u8]
     ensures { λ r. ⌜ Body (now (book .entry)) entry (now r) ⌝ }
 {
-    let at = placed(book, entry);
-    let start = at.start as usize;
-    let end = end_of(at);
-    &book[start..end]
+    if number(book) != logic::YES {
+        return &book[0..0];
+    }
+    if 1 < entry {
+        return &book[0..0];
+    }
+    part(book, entry)
 }

@@ -5,33 +5,34 @@ use mathlib.Core.Bool.{Bool, true, false}
 use mathlib.Core.Logic.{_⊎_, inl, inr, ⊎-elim}
 use Prim.Native.Nat.{ℕ, zero, suc, zero-le, _+_, _-_, _^_, _<_, _≤_}
 use native.Mathlib.Nat.{not-suc-le-zero, eq-or-lt-of-le}
-use native.Mathlib.Decide.{ℕ-discrete}
+use native.Mathlib.Decide.{decLe, ℕ-discrete}
 use native.Mathlib.Omega.{arith}
-use lib.Dec.{eqb}
 use lib.Bits.{bitOr}
 use borrow.Author.Tests.{eq-eqb, ne-eqb}
-use Rattle.logic.specs.Heap.{Map, Heap, Locs, StronglyDisjoint, Parts}
-use Rattle.logic.specs.Tests.{andb, pick, any, inPart, union, septAt}
+use Rattle.logic.specs.Heap.{Map, Heap, StronglyDisjoint}
+use Rattle.logic.specs.Tests.{andb, any, inPart, union, septAt}
 use Rattle.logic.specs.Reflect.{Is, false-true, is-iff, is-self, is-and, same-of-not}
 use Rattle.logic.specs.Agree.{union-heap, union-parts, union-is, is-sept}
-use Rattle.cells.specs.Cells.{most, full, cells, Placed, Unnamed, Touches, Tabled, Folded}
+use Rattle.cells.specs.Cells.{cells, Placed, Unnamed, Touches, Met, Source, SourceBelow, Target}
 use Rattle.cells.specs.Sets.{is-same}
 use Rattle.cells.specs.Packing.{cells-zero}
 use Rattle.cells.specs.Heaps.{put-at, or-union}
-use Rattle.cells.specs.Tables.{touches-locs, locs-touches, touches-nothing, disjoint-meets, meets-disjoint, is-met}
+use Rattle.cells.specs.Tables.{touches-locs, locs-touches, touches-nothing, disjoint-meets, meets-disjoint}
 use Rattle.judge.specs.Setting.{Serves, Above, Some, SomeAt, Filled, Tried}
 
 module _ (v n u : ℕ) (s : Map) (un : Unnamed v n s u) (w : ℕ) (kw : Heap n (cells w)) where
+  -- ---- the heap so far
+
   -- nothing is filled yet
-  pub fill-first : (t met : ℕ) → Tabled u w t → Folded t met → Filled n u w met n 0
-  fill-first t met k f =
+  pub fill-first : (met : ℕ) → Met u w met → Filled n u w met n 0
+  fill-first met k =
       record {
         upTo = omega arith;
         heap = record { nil = cells-zero 0; past = λ ℓ _. cells-zero ℓ; low = λ ℓ. rw (cells-zero ℓ) zero-le };
         below = λ ℓ _. cells-zero ℓ;
         free = λ ℓ. inl (cells-zero ℓ);
         quiet = λ ℓ j t. absurd (touches-nothing ℓ j (subst (λ (x : ℕ). Touches ℓ x j) (cells-zero ℓ) t));
-        meets = record { small = f .small; member = λ j. is-met v n u s un w t met j k f };
+        meets = k;
       }
 
   module _ (met l g : ℕ) (fi : Filled n u w met l g) where
@@ -43,8 +44,16 @@ module _ (v n u : ℕ) (s : Map) (un : Unnamed v n s u) (w : ℕ) (kw : Heap n (
     pub whole-heap : Heap n (cells (bitOr g w))
     whole-heap = rw (or-union g w (fi .free)) (union-heap n (cells g) (cells w) (fi .heap) kw)
 
-    pub fill-less : 0 < l → Filled n u w met (l - 1) g
-    fill-less h = record { upTo = omega (arith, fi .upTo); heap = fi .heap; below = λ ℓ k. fi .below ℓ (omega arith); free = fi .free; quiet = fi .quiet; meets = fi .meets }
+    pub fill-less : (r : ℕ) → r ≤ l → Filled n u w met r g
+    fill-less r h =
+        record {
+          upTo = omega (arith, fi .upTo);
+          heap = fi .heap;
+          below = λ ℓ k. fi .below ℓ (omega arith);
+          free = fi .free;
+          quiet = fi .quiet;
+          meets = fi .meets;
+        }
 
     -- a cell put in at l
     module _ (d r : ℕ) (h : 0 < l) (ld : d ≤ suc n) (p : Placed d l r) where
@@ -61,8 +70,8 @@ module _ (v n u : ℕ) (s : Map) (un : Unnamed v n s u) (w : ℕ) (kw : Heap n (
           go (yes e) = subst (λ (i : ℕ). P i (cells (bitOr g r) i)) (sym e) (subst (P l) (sym put-here) a)
           go (no e) = subst (P ℓ) (sym (put-there ℓ e)) (c ℓ)
 
-      pub put-filled : cells w l ≡ 0 → ((j : ℕ) → Touches l d j → ¬ (inPart met j ≡ true)) → Filled n u w met (l - 1) (bitOr g r)
-      put-filled z qu =
+      pub put-filled : Source w met l → Target met d → Filled n u w met (l - 1) (bitOr g r)
+      put-filled so ta =
           record {
             upTo = omega (arith, fi .upTo);
             heap = record {
@@ -71,14 +80,49 @@ module _ (v n u : ℕ) (s : Map) (un : Unnamed v n s u) (w : ℕ) (kw : Heap n (
               low = put-each (λ ℓ x. x ≤ suc n) ld (fi .heap .low);
             };
             below = λ ℓ k. put-there ℓ (λ (e : ℓ ≡ l). omega arith) ∙ fi .below ℓ (omega arith);
-            free = put-each (λ ℓ x. (x ≡ 0) ⊎ (cells w ℓ ≡ 0)) (inr z) (fi .free);
-            quiet = put-each (λ ℓ x. (j : ℕ) → Touches ℓ x j → ¬ (inPart met j ≡ true)) qu (fi .quiet);
+            free = put-each (λ ℓ x. (x ≡ 0) ⊎ (cells w ℓ ≡ 0)) (inr (so .0)) (fi .free);
+            quiet = put-each (λ ℓ x. (j : ℕ) → Touches ℓ x j → ¬ (inPart met j ≡ true)) here (fi .quiet);
             meets = fi .meets;
           }
+        where
+          here : (j : ℕ) → Touches l d j → ¬ (inPart met j ≡ true)
+          here j t q = ⊎-elim (λ o. so .1 (ap (inPart met) (sym (o .1)) ∙ q)) (λ e. ta j e q) t
 
     -- ---- the heaps that serve, for two tests A and B
     module _ (A B : Map → Bool) where
-      -- above l - 1 is at l and above l
+      -- a heap that serves touches none of met
+      serves-quiet : (z : Map) → Serves v n s A B (cells w) z → (ℓ j : ℕ) → Touches ℓ (z ℓ) j → ¬ (inPart met j ≡ true)
+      serves-quiet z o ℓ j t q =
+          let m = fi .meets .member j .to q in
+          disjoint-meets v n u s un z (cells w) (o .apart) (j, touches-locs z ℓ j t, m .0, m .1)
+
+      -- and so has no cell where none may be added
+      serves-sources : (z : Map) → Serves v n s A B (cells w) z → (ℓ : ℕ) → ¬ Source w met ℓ → z ℓ ≡ 0
+      serves-sources z o ℓ f =
+          same-of-not (z ℓ) 0
+          (λ a. f (same-of-not (cells w ℓ) 0 (λ b. o .apart .alone ℓ (a, b)), serves-quiet z o ℓ ℓ (inl (a, refl))))
+
+      -- locations at which no cell may be added are passed over
+      pub fill-skip : (r : ℕ) (b : Bool) → SourceBelow w met l r → Is b (Some v n s A B (cells w) r (cells g)) → Is b (Some v n s A B (cells w) l (cells g))
+      fill-skip r b sb i =
+          is-iff i (λ o. (o .0, o .1, λ ℓ k. o .2 ℓ (omega (arith, sb .low)))) (λ o. (o .0, o .1, λ ℓ k. each (o .0) (o .1) (o .2) ℓ k (decLe ℓ l)))
+        where
+          above : {ℓ : ℕ} → ¬ (ℓ ≤ l) → l < ℓ
+          above q = omega arith
+
+          each : (z : Map) → Serves v n s A B (cells w) z → Above l z (cells g) → (ℓ : ℕ) → r < ℓ → Dec (ℓ ≤ l) → z ℓ ≡ cells g ℓ
+          each z o a ℓ k (yes m) = serves-sources z o ℓ (sb .passed ℓ k m) ∙ sym (fi .below ℓ m)
+          each z o a ℓ k (no m) = a ℓ (above m)
+
+      -- digit d at l would meet w at a location that is not named
+      pub fill-clash : (d : ℕ) → ¬ Target met d → Is false (SomeAt v n s A B (cells w) l (cells g) d)
+      fill-clash d f =
+          record {
+            to = λ t. false-true t;
+            from = λ o. absurd (f (λ j e. serves-quiet (o .0) (o .1) l j (inr (o .3 ∙ e))));
+          }
+
+      -- at l and above it is above l - 1
       at-and-above : (z y : Map) → z l ≡ y l → Above l z y → Above (l - 1) z y
       at-and-above z y e a ℓ k = go (ℕ-discrete ℓ l)
         where
@@ -89,41 +133,22 @@ module _ (v n u : ℕ) (s : Map) (un : Unnamed v n s u) (w : ℕ) (kw : Heap n (
           go (yes q) = subst (λ (i : ℕ). z i ≡ y i) (sym q) e
           go (no q) = a ℓ (more q)
 
-      -- every location is filled
-      pub fill-last : (r : Bool) → l ≡ 0 → r ≡ andb (A (cells g)) (B (cells (bitOr g w))) → Is r (Some v n s A B (cells w) l (cells g))
-      fill-last r e q =
-          is-iff (subst (λ (b : Bool). Is b ((A (cells g) ≡ true) × (B (cells (bitOr g w)) ≡ true))) (sym q) (is-and (A (cells g)) (B (cells (bitOr g w))) (is-self (A (cells g))) (is-self (B (cells (bitOr g w))))))
-          (λ o. (cells g, record { heap = fi .heap; apart = fill-apart; added = o .0; whole = rw (or-union g w (fi .free)) at (o .1) }, λ ℓ _. refl))
-          (λ o. let same : o .0 ≡ cells g = fun-ext (each (o .0) (o .1) (o .2)) in (rw same at (o .1 .added), rw (or-union g w (fi .free)) (rw same at (o .1 .whole))))
-        where
-          each : (z : Map) → Serves v n s A B (cells w) z → Above l z (cells g) → (ℓ : ℕ) → z ℓ ≡ cells g ℓ
-          each z o a zero = o .heap .nil ∙ sym (fi .heap .nil)
-          each z o a (suc i) = a (suc i) (omega arith)
-
-      -- location l is w's
-      pub fill-taken : (r : Bool) → 0 < l → ¬ (cells w l ≡ 0) → Is r (Some v n s A B (cells w) (l - 1) (cells g)) → Is r (Some v n s A B (cells w) l (cells g))
-      fill-taken r h nz i =
-          is-iff i (λ o. (o .0, o .1, λ ℓ k. o .2 ℓ (omega arith)))
-          (λ o. (o .0, o .1, at-and-above (o .0) (cells g) (nothing (o .0) (o .1) ∙ sym (fi .below l (omega arith))) (o .2)))
-        where
-          nothing : (z : Map) → Serves v n s A B (cells w) z → z l ≡ 0
-          nothing z o = same-of-not (z l) 0 (λ f. o .apart .alone l (f, nz))
-
-      -- digit d at l would meet w at a location that is not named
-      pub fill-clash : (d : ℕ) → ¬ ((j : ℕ) → Touches l d j → ¬ (inPart met j ≡ true)) → Is false (SomeAt v n s A B (cells w) l (cells g) d)
-      fill-clash d f =
-          record {
-            to = λ t. false-true t;
-            from = λ o. absurd (f (λ j t q.
-                let m = fi .meets .member j .to q in
-                disjoint-meets v n u s un (o .0) (cells w) (o .1 .apart) (j, touches-locs (o .0) l j (subst (λ (x : ℕ). Touches l x j) (sym (o .3)) t), m .0, m .1)));
-          }
-
       pub put-found : (d r : ℕ) (h : 0 < l) (ld : d ≤ suc n) (p : Placed d l r) (b : Bool) → Is b (Some v n s A B (cells w) (l - 1) (cells (bitOr g r))) → Is b (SomeAt v n s A B (cells w) l (cells g) d)
       put-found d r h ld p b i =
           is-iff i
           (λ o. (o .0, o .1, λ ℓ k. o .2 ℓ (omega arith) ∙ put-there d r h ld p ℓ (λ (e : ℓ ≡ l). omega arith), o .2 l (omega arith) ∙ put-here d r h ld p))
           (λ o. (o .0, o .1, at-and-above (o .0) (cells (bitOr g r)) (o .3 ∙ sym (put-here d r h ld p)) (λ ℓ k. o .2 ℓ k ∙ sym (put-there d r h ld p ℓ (λ (e : ℓ ≡ l). omega arith)))))
+
+  -- every location is filled
+  pub fill-last : (met g : ℕ) → Filled n u w met 0 g → (A B : Map → Bool) (r : Bool) → r ≡ andb (A (cells g)) (B (cells (bitOr g w))) → Is r (Some v n s A B (cells w) 0 (cells g))
+  fill-last met g fi A B r q =
+      is-iff (subst (λ (b : Bool). Is b ((A (cells g) ≡ true) × (B (cells (bitOr g w)) ≡ true))) (sym q) (is-and (A (cells g)) (B (cells (bitOr g w))) (is-self (A (cells g))) (is-self (B (cells (bitOr g w))))))
+      (λ o. (cells g, record { heap = fi .heap; apart = fill-apart met 0 g fi; added = o .0; whole = rw (or-union g w (fi .free)) at (o .1) }, λ ℓ _. refl))
+      (λ o. let same : o .0 ≡ cells g = fun-ext (each (o .0) (o .1) (o .2)) in (rw same at (o .1 .added), rw (or-union g w (fi .free)) (rw same at (o .1 .whole))))
+    where
+      each : (z : Map) → Serves v n s A B (cells w) z → Above 0 z (cells g) → (ℓ : ℕ) → z ℓ ≡ cells g ℓ
+      each z o a zero = o .heap .nil ∙ sym (fi .heap .nil)
+      each z o a (suc i) = a (suc i) (omega arith)
 
   -- ---- the digits at l, upward
   module _ (A B : Map → Bool) (l : ℕ) (y : Map) where

@@ -1,6 +1,6 @@
 pub mod Setting
 pub mod Nodes
 pub mod Atoms
-pub mod Ready
+pub mod Joins
 pub mod Trial
 pub mod Adding

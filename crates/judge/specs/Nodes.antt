@@ -1,20 +1,16 @@
--- Laws of nodes: a sound table's operands, the formula that a node stands for, and the truth of each connective's
--- formula. Assumes nothing.
-use mathlib.Core.Path.{_≡_, refl, sym, subst, _∙_, ap, ap₂}
-use mathlib.Core.Bool.{Bool, true, false, not}
+-- Laws of nodes: a sound table's operands, and the formula that a node stands for. Assumes nothing.
+use mathlib.Core.Path.{_≡_, sym, _∙_, ap, ap₂}
 use mathlib.Core.List.{List}
 use mathlib.Core.Logic.{⊎-elim}
-use Prim.Native.Nat.{ℕ, zero, suc, _+_, _*_, _^_, _<_, _≤_}
-use native.Mathlib.Nat.{not-suc-le-zero, eq-or-lt-of-le, le-of-suc-le-suc, lt-of-le-of-lt, lt-of-lt-of-le}
+use Prim.Native.Nat.{ℕ, zero, suc, _<_, _≤_}
+use native.Mathlib.Nat.{not-suc-le-zero, eq-or-lt-of-le, le-of-suc-le-suc}
 use native.Mathlib.Decide.{decLe, ℕ-discrete}
 use native.Mathlib.Omega.{arith}
 use lib.Dec.{eqb, leb}
 use borrow.Author.Tests.{eq-eqb, ne-eqb, le-leb, lt-leb}
-use Rattle.logic.specs.Heap.{Map}
 use Rattle.logic.specs.Formula.{Form}
-use Rattle.logic.specs.Tests.{andb, orb, pick, any, sepAt, septAt}
-use Rattle.logic.specs.Truth.{truth}
-use Rattle.logic.specs.Table.{opOf, operandOf, kindOf, Operand, NodeOk, Sound, atomOf, joinOf, joinFrom5, formOf, pickForm, deep, tree}
+use Rattle.logic.specs.Tests.{andb, pick}
+use Rattle.logic.specs.Table.{opOf, operandOf, kindOf, Operand, NodeOk, Sound, atomOf, joinOf, formOf, pickForm, deep, tree}
 
 -- ---- operands
 module _ (v : ℕ) (f : List ℕ) (k : ℕ) (ok : NodeOk v f k) where
@@ -69,30 +65,3 @@ module _ (v : ℕ) (f : List ℕ) (n : ℕ) (ok : Sound v f n) where
       let a : operandOf f k 0 < k = o .0 in
       let b : operandOf f k 1 < k = o .1 in
       rw (lt-leb (opOf f k) 4 l) (ap₂ (joinOf (opOf f k)) (deep-tree k (operandOf f k 0) a (omega arith)) (deep-tree k (operandOf f k 1) b (omega arith)))
-
--- ---- the truth of each connective's formula
-module _ (v n p : ℕ) (s h : Map) where
-  module _ (o : ℕ) (a b : Form) where
-    pub truth-5 : o ≡ 5 → truth v n p (joinOf o a b) s h ≡ andb (truth v n p a s h) (truth v n p b s h)
-    unfolding truth joinOf joinFrom5
-    truth-5 e = rw e
-
-    pub truth-6 : o ≡ 6 → truth v n p (joinOf o a b) s h ≡ orb (truth v n p a s h) (truth v n p b s h)
-    unfolding truth joinOf joinFrom5
-    truth-6 e = rw e
-
-    pub truth-7 : o ≡ 7 → truth v n p (joinOf o a b) s h ≡ andb (truth v n p a s h) (not (truth v n p b s h))
-    unfolding truth joinOf joinFrom5
-    truth-7 e = rw e
-
-    pub truth-8 : o ≡ 8 → truth v n p (joinOf o a b) s h ≡ not (truth v n p a s h)
-    unfolding truth joinOf joinFrom5
-    truth-8 e = rw e
-
-    pub truth-9 : o ≡ 9 → truth v n p (joinOf o a b) s h ≡ any (2 ^ n) (sepAt v n s h (truth v n p a s) (truth v n p b s))
-    unfolding truth joinOf joinFrom5
-    truth-9 e = rw e
-
-    pub truth-10 : o ≡ 10 → truth v n p (joinOf o a b) s h ≡ any ((n + 2) ^ n) (septAt v n s h (truth v n p a s) (truth v n p b s))
-    unfolding truth joinOf joinFrom5
-    truth-10 e = rw e

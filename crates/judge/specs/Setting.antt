@@ -3,15 +3,15 @@ use mathlib.Core.Path.{_≡_}
 use mathlib.Core.Bool.{Bool, true, false}
 use mathlib.Core.Logic.{_⊎_}
 use mathlib.Core.List.{List}
-use Prim.Native.Nat.{ℕ, suc, _^_, _<_, _≤_}
+use Prim.Native.Nat.{ℕ, suc, _<_, _≤_}
 use lib.ListN.{getD}
-use Rattle.logic.specs.Heap.{Map, Stack, Heap, Locs, StronglyDisjoint}
+use Rattle.logic.specs.Heap.{Map, Stack, Heap, StronglyDisjoint}
 use Rattle.logic.specs.Formula.{Form}
-use Rattle.logic.specs.Table.{Sound, tree}
+use Rattle.logic.specs.Table.{opOf, operandOf, Sound, tree}
 use Rattle.logic.specs.Tests.{inPart, union, sepAt}
 use Rattle.logic.specs.Truth.{truth}
 use Rattle.logic.specs.Reflect.{Is}
-use Rattle.cells.specs.Cells.{most, full, cells, Sub, Unnamed, Touches}
+use Rattle.cells.specs.Cells.{most, full, cells, Sub, Unnamed, Touches, Met}
 
 -- a setting b has five numbers, the same for every node: v, n, p, the packed stack, and the set of the locations that are not
 -- named
@@ -43,6 +43,11 @@ pub record Ready (f b : List ℕ) (k : ℕ) : Type 0 where
   pub stack : Stack (varsOf b) (locsOf b) (stackOf b)
   pub unnamed : Unnamed (varsOf b) (locsOf b) (stackOf b) (unnamedOf b)
 
+-- and it is a connective, whose children are lower nodes
+pub record Joined (f b : List ℕ) (k : ℕ) : Type 0 where
+  pub ready : Ready f b k
+  pub operator : 5 ≤ opOf f k
+
 -- the truth of a formula, and of node k, in setting b
 abbrev pub truthOf : List ℕ → Form → Map → Bool
 truthOf b F h = truth (varsOf b) (locsOf b) (pathOf b) F (stackOf b) h
@@ -50,9 +55,16 @@ truthOf b F h = truth (varsOf b) (locsOf b) (pathOf b) F (stackOf b) h
 abbrev pub truthAt : List ℕ → List ℕ → ℕ → Map → Bool
 truthAt f b k h = truthOf b (tree f k) h
 
--- part m of the heap w serves for node x, and the rest for node y
-abbrev pub servesAt : List ℕ → List ℕ → ℕ → ℕ → ℕ → ℕ → Bool
-servesAt f b x y w m = sepAt (varsOf b) (locsOf b) (stackOf b) (cells w) (truthAt f b x) (truthAt f b y) m
+-- and of its children
+abbrev pub firstAt : List ℕ → List ℕ → ℕ → Map → Bool
+firstAt f b k h = truthAt f b (operandOf f k 0) h
+
+abbrev pub secondAt : List ℕ → List ℕ → ℕ → Map → Bool
+secondAt f b k h = truthAt f b (operandOf f k 1) h
+
+-- part m of the heap w serves for node k's first child, and the rest for its second
+abbrev pub servesAt : List ℕ → List ℕ → ℕ → ℕ → ℕ → Bool
+servesAt f b k w m = sepAt (varsOf b) (locsOf b) (stackOf b) (cells w) (firstAt f b k) (secondAt f b k) m
 
 -- r is the lowest number below k that passes F, or the mark that none does
 pub data Chosen (F : ℕ → Bool) (k r : ℕ) : Type 0 where
@@ -78,19 +90,15 @@ Some v n s A B h l y = (z : Map) × Serves v n s A B h z × Above l z y
 abbrev pub SomeAt : ℕ → ℕ → Map → (Map → Bool) → (Map → Bool) → Map → ℕ → Map → ℕ → Type 0
 SomeAt v n s A B h l y d = (z : Map) × Serves v n s A B h z × Above l z y × (z l ≡ d)
 
--- r says whether some heap that is g above location l serves for nodes x and y, with the heap w
-abbrev pub Found : List ℕ → List ℕ → ℕ → ℕ → ℕ → ℕ → ℕ → Bool → Type 0
-Found f b x y w l g r = Is r (Some (varsOf b) (locsOf b) (stackOf b) (truthAt f b x) (truthAt f b y) (cells w) l (cells g))
+-- r says whether some heap that is g above location l serves for node k's children, with the heap w
+abbrev pub Found : List ℕ → List ℕ → ℕ → ℕ → ℕ → ℕ → Bool → Type 0
+Found f b k w l g r = Is r (Some (varsOf b) (locsOf b) (stackOf b) (firstAt f b k) (secondAt f b k) (cells w) l (cells g))
 
-abbrev pub FoundAt : List ℕ → List ℕ → ℕ → ℕ → ℕ → ℕ → ℕ → ℕ → Bool → Type 0
-FoundAt f b x y w l g d r = Is r (SomeAt (varsOf b) (locsOf b) (stackOf b) (truthAt f b x) (truthAt f b y) (cells w) l (cells g) d)
+abbrev pub FoundAt : List ℕ → List ℕ → ℕ → ℕ → ℕ → ℕ → ℕ → Bool → Type 0
+FoundAt f b k w l g d r = Is r (SomeAt (varsOf b) (locsOf b) (stackOf b) (firstAt f b k) (secondAt f b k) (cells w) l (cells g) d)
 
--- the set met is the unnamed locations of the heap w
-pub record Met (u w met : ℕ) : Type 0 where
-  pub small : met < full
-  pub member : (j : ℕ) → Is (inPart met j) (Locs (cells w) j × (inPart u j ≡ true))
-
--- g is filled above location l: it has nothing up to l, nothing where w has a cell, and meets w at named locations only
+-- g is filled above location l: it has nothing up to l, nothing where w has a cell, and touches none of met, which are the
+-- unnamed locations of w
 pub record Filled (n u w met l g : ℕ) : Type 0 where
   pub upTo : l ≤ n
   pub heap : Heap n (cells g)

@@ -3,16 +3,16 @@
 use mathlib.Core.Path.{_≡_, refl, sym, subst, _∙_, ap}
 use mathlib.Core.Bool.{Bool, true, false, not}
 use mathlib.Core.Logic.{_⊎_, inl, inr, ⊎-elim}
-use Prim.Native.Nat.{ℕ, zero, suc, _+_, _-_, _^_, _<_, _≤_}
+use Prim.Native.Nat.{ℕ, suc, _+_, _-_, _^_, _<_, _≤_}
 use native.Mathlib.Nat.{not-suc-le-zero, pow-le-pow-right, lt-of-le-of-lt, lt-of-lt-of-le}
 use native.Mathlib.Decide.{decLt, decLe, ℕ-discrete}
 use native.Mathlib.Omega.{arith}
-use lib.Dec.{eqb, ltb}
+use lib.Dec.{ltb}
 use lib.Bits.{bitAnd, bitXor, and-le-r, and-zero-l}
-use borrow.Author.Tests.{eq-eqb, lt-ltb, ltb-true}
-use Rattle.logic.specs.Heap.{Map, Heap, Parts}
-use Rattle.logic.specs.Tests.{andb, orb, any, inPart, allocated, part, rest, within, apart, sepAt}
-use Rattle.logic.specs.Reflect.{Is, false-true, is-iff, is-self, is-all, is-any}
+use borrow.Author.Tests.{lt-ltb, ltb-true}
+use Rattle.logic.specs.Heap.{Map, Heap}
+use Rattle.logic.specs.Tests.{andb, orb, any, inPart, allocated, within, apart, sepAt}
+use Rattle.logic.specs.Reflect.{Is, false-true, is-self, is-all, is-any}
 use Rattle.logic.specs.Agree.{is-apart, first-heap, second-heap}
 use Rattle.cells.specs.Cells.{most, full, cells, Sub, Spread, Taken, Unnamed, Tabled, Clear}
 use Rattle.cells.specs.Sets.{is-same, in-and, in-past, same-set, set-small}
@@ -154,11 +154,8 @@ module _ (v n u : ℕ) (s : Map) (un : Unnamed v n s u) (w t m e : ℕ) (kw : He
     pub serves-not-apart : r ≡ false → false ≡ sepAt v n s (cells w) A B m
     serves-not-apart p = sym (sep-is A B r wi i ∙ rw p)
 
-    pub serves-not-first : r ≡ true → A (cells (bitAnd w e)) ≡ false → false ≡ sepAt v n s (cells w) A B m
-    serves-not-first p q = sym (sep-is A B r wi i ∙ rw (p, q))
-
-    pub serves-second : (o : Bool) → r ≡ true → A (cells (bitAnd w e)) ≡ true → o ≡ B (cells (bitXor w (bitAnd w e))) → o ≡ sepAt v n s (cells w) A B m
-    serves-second o p q k = k ∙ sym (sep-is A B r wi i ∙ rw (p, q))
+    pub serves-both : (o : Bool) → r ≡ true → o ≡ andb (A (cells (bitAnd w e))) (B (cells (bitXor w (bitAnd w e)))) → o ≡ sepAt v n s (cells w) A B m
+    serves-both o p q = q ∙ sym (sep-is A B r wi i ∙ rw p)
 
 -- a part that is not within the heap does not serve
 pub sep-out : (v n : ℕ) (s h : Map) (A B : Map → Bool) (m : ℕ) → within n m h ≡ false → sepAt v n s h A B m ≡ false

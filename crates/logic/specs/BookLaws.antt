@@ -1,16 +1,16 @@
 -- What the reader's statements give: the stretch of a body lies in the book, one answer at most, and what an accepted book is.
 -- Assumes nothing.
-use mathlib.Core.Path.{_≡_, refl, sym, _∙_, ap, ap₂, subst₂}
-use mathlib.Core.List.{List, []}
-use mathlib.Core.Logic.{inl, inr, ⊎-elim}
-use Prim.Native.Nat.{ℕ, zero, suc, _+_, _-_, _<_, _≤_}
+use mathlib.Core.Path.{_≡_, sym, _∙_, ap, ap₂, subst₂}
+use mathlib.Core.List.{List}
+use mathlib.Core.Logic.{⊎-elim}
+use Prim.Native.Nat.{ℕ, zero, suc, _+_, _-_, _≤_}
 use native.Mathlib.Omega.{arith}
 use lib.ListN.{length, getD, take, drop, length-take, length-drop}
 use Rattle.logic.specs.declared.Answer.{Answer}
 use Rattle.logic.specs.Numbers.{answer}
 use Rattle.logic.specs.Checks.{_then_, upto, Passes, Answers}
 use Rattle.logic.specs.CheckLaws.{Single, Yes, Refuses, answers-single, yes-single, passes-of-yes, fails-of-refused, then-passes, passes-at, answers-refused, answers-after, refuses-then, refuses-upto}
-use Rattle.logic.specs.Table.{OperatorOk}
+use Rattle.logic.specs.Table.{Sound}
 use Rattle.logic.specs.Book.{offset, size, stretch, LaidOut, Given, varsOf, formulaOf, nodes, root, contentsChecks, bodyChecks, nodeChecks, useChecks, tableChecks, bookChecks, Reads, Accepted, Whole, Body, Placed}
 
 -- two answers that the reader's statement allows are equal, and so are two bodies and two places
@@ -64,48 +64,27 @@ stretch-fits s e g = go e (g .1)
     go (suc zero) l = omega (arith, g .0 .1 .ends)
     go (suc (suc e)) l = absurd (omega arith)
 
-pub placed-fits : (s : List ℕ) (e start len : ℕ) → Placed s e start len → start + len ≤ length s
-unfolding Placed
-placed-fits s e start len q =
-    ⊎-elim (λ x. let h = stretch-fits s e (x .0) in omega (arith, x .1 .0, x .1 .1)) (λ x. omega (arith, x .1 .0, x .1 .1)) q
-
-pub placed-short : (s : List ℕ) (e start len : ℕ) → Placed s e start len → start + len ≤ 206
-unfolding Placed
-placed-short s e start len q =
-    ⊎-elim (λ x. let h = stretch-fits s e (x .0) in omega (arith, x .1 .0, x .1 .1, x .0 .0 .0 .1)) (λ x. omega (arith, x .1 .0, x .1 .1)) q
+pub stretch-short : (s : List ℕ) (e : ℕ) → Given s e → offset s e + size s e ≤ 206
+stretch-short s e g = omega (arith, stretch-fits s e g, g .0 .0 .1)
 
 pub stretch-length : (s : List ℕ) (e : ℕ) → Given s e → length (stretch s e) ≡ size s e
 stretch-length s e g = let h = stretch-fits s e g in rw (length-take, length-drop) (omega arith)
 
-take-none : (s : List ℕ) (k : ℕ) → k ≡ 0 → take k s ≡ []
-take-none s zero e = refl
-take-none s (suc k) e = absurd (omega arith)
-
--- the stretch between two places of the book is the body
-pub placed-body : (s : List ℕ) (e start len : ℕ) → Placed s e start len → Body s e (take (start + len - start) (drop start s))
-unfolding Placed Body
-placed-body s e start len q = rw n (⊎-elim given none q)
-  where
-    n : start + len - start ≡ len
-    n = omega arith
-
-    given : Given s e × ((start ≡ offset s e) × (len ≡ size s e)) → Body s e (take len (drop start s))
-    given x = inl (x .0, ap₂ (λ (k i : ℕ). take k (drop i s)) (x .1 .1) (x .1 .0))
-
-    none : (¬ Given s e) × ((start ≡ 0) × (len ≡ 0)) → Body s e (take len (drop start s))
-    none x = inr (x .0, take-none (drop start s) len (x .1 .1))
-
-pub body-given : (s : List ℕ) (e : ℕ) (r : List ℕ) → Body s e r → Given s e → r ≡ stretch s e
-unfolding Body
-body-given s e r q g = ⊎-elim (λ x. x .1) (λ x. absurd (x .0 g)) q
+-- the stretch between two places of the book
+pub stretch-is : (s : List ℕ) (e start len end : ℕ) → start ≡ offset s e → len ≡ size s e → end ≡ start + len → take (end - start) (drop start s) ≡ stretch s e
+stretch-is s e start len end es el ee =
+    let n : end - start ≡ size s e = omega arith in
+    ap₂ (λ (k i : ℕ). take k (drop i s)) n es
 
 -- a body is no longer than the book
-pub body-short : (s : List ℕ) (e : ℕ) (r : List ℕ) → LaidOut s → e ≤ 1 → Body s e r → length r ≤ 206
-body-short s e r g l q =
-    let h = stretch-fits s e (g, l) in
-    omega (arith, ap length (body-given s e r q (g, l)), stretch-length s e (g, l), g .0 .1)
+pub body-short : (s : List ℕ) (e : ℕ) (r : List ℕ) → Given s e → r ≡ stretch s e → length r ≤ 206
+body-short s e r g q = omega (arith, ap length q, stretch-length s e g, stretch-short s e g)
 
 -- ---- an accepted book
+
+pub nodes-sound : (v : ℕ) (f : List ℕ) → Passes (upto (nodeChecks v f) (nodes f)) → Sound v f (nodes f)
+unfolding Passes
+nodes-sound v f p k l = let q = passes-at (nodeChecks v f) (nodes f) p k l in record { operator = q .0; operands = q .1 .0 }
 
 book-refuses : (s : List ℕ) → Refuses (bookChecks s)
 book-refuses s =
@@ -145,7 +124,7 @@ module _ (s : List ℕ) (ok : Accepted s) where
         some = omega (arith, f .0, f .1);
         few = omega arith;
         bytes = omega (arith, f .1);
-        sound = λ k l. let q = passes-at (nodeChecks (varsOf s) (formulaOf s)) (nodes (formulaOf s)) (parts .1 .1 .0) k l in record { operator = q .0; operands = q .1 .0 };
+        sound = nodes-sound (varsOf s) (formulaOf s) (parts .1 .1 .0);
         tree = λ k l. passes-at (useChecks (formulaOf s)) (root (formulaOf s)) (parts .1 .1 .1) k (omega arith) .0;
       }
     where
@@ -162,15 +141,14 @@ unfolding Reads
 reads-contents s a q f =
     answers-refused (contentsChecks s) Yes (bodyChecks (stretch s 0) (formulaOf s) then tableChecks (varsOf s) (formulaOf s)) a q f
 
--- b and f are the bodies that `body` hands back
-module _ (s b f : List ℕ) (g : LaidOut s) (qb : Body s 0 b) (qf : Body s 1 f) where
+-- b and f are the two bodies
+module _ (s b f : List ℕ) (g : LaidOut s) (eb : b ≡ stretch s 0) (ef : f ≡ formulaOf s) where
   -- what the bodies and the table answer is what the book answers
   bodies-after : (a : Answer) → Answers (bodyChecks b f then tableChecks (getD b 0 0) f) Yes a → Reads s a
   unfolding Reads Passes
   bodies-after a q =
       answers-after (contentsChecks s) (bodyChecks (stretch s 0) (formulaOf s) then tableChecks (varsOf s) (formulaOf s)) Yes a (g .0, (g .1, tt))
-      (subst₂ (λ (x y : List ℕ). Answers (bodyChecks x y then tableChecks (getD x 0 0) y) Yes a)
-      (body-given s 0 b qb (g, omega arith)) (body-given s 1 f qf (g, omega arith)) q)
+      (subst₂ (λ (x y : List ℕ). Answers (bodyChecks x y then tableChecks (getD x 0 0) y) Yes a) eb ef q)
 
   pub reads-bodies : (a : Answer) → Answers (bodyChecks b f) Yes a → ¬ (a .number ≡ 0) → Reads s a
   reads-bodies a q w = bodies-after a (answers-refused (bodyChecks b f) Yes (tableChecks (getD b 0 0) f) a q w)
@@ -190,7 +168,3 @@ bodies-pass b f r q e = passes-of-yes (bodyChecks b f) (answer r 0) (body-refuse
 
 pub nodes-pass : (v : ℕ) (f : List ℕ) (a : Answer) → Answers (upto (nodeChecks v f) (nodes f)) Yes a → a .number ≡ 0 → Passes (upto (nodeChecks v f) (nodes f))
 nodes-pass v f a q e = passes-of-yes (upto (nodeChecks v f) (nodes f)) a (refuses-upto (nodeChecks v f) (node-refuses v f) (nodes f)) q e
-
-pub nodes-operators : (v : ℕ) (f : List ℕ) → Passes (upto (nodeChecks v f) (nodes f)) → (k : ℕ) → k < nodes f → OperatorOk f k
-unfolding Passes
-nodes-operators v f p k l = passes-at (nodeChecks v f) (nodes f) p k l .0

@@ -1,12 +1,16 @@
 -- Laws of the node table: its operands by their kind, and how often a node is used. Assumes nothing.
 use mathlib.Core.Path.{_≡_, refl}
 use mathlib.Core.List.{List}
-use Prim.Native.Nat.{ℕ, zero, suc, _+_, _≤_}
+use Prim.Native.Nat.{ℕ, zero, suc, _+_, _<_, _≤_}
+use native.Mathlib.Decide.{ℕ-discrete}
 use native.Mathlib.Numerals.{add-one}
+use native.Mathlib.Omega.{arith}
 use lib.Dec.{eqb, leb, ltb}
-use borrow.Author.Tests.{eq-eqb, ne-eqb, le-leb}
+use borrow.Author.Tests.{eq-eqb, ne-eqb, le-leb, lt-leb}
+use Rattle.logic.specs.Tests.{andb, pick}
+use mathlib.Core.Bool.{Bool, true, false}
 use Rattle.logic.specs.Reflect.{Is, is-eq, is-le, is-lt}
-use Rattle.logic.specs.Table.{opOf, operandOf, kindOf, Operand, usesOn, uses}
+use Rattle.logic.specs.Table.{opOf, operandOf, kindOf, Operand, OperandOk, Sound, usesOn, uses}
 
 module _ (v k : ℕ) where
   pub is-zero : (t x : ℕ) → t ≡ 0 → Is (eqb x 0) (Operand v k t x)
@@ -24,8 +28,8 @@ module _ (v k : ℕ) where
   is-child (suc (suc t)) x a b = is-lt x k
 
 module _ (f : List ℕ) (j k side : ℕ) where
-  pub used-on : kindOf (opOf f j) side ≡ 2 → operandOf f j side ≡ k → usesOn f j k side ≡ 1
-  used-on a b = rw (eq-eqb (kindOf (opOf f j) side) 2 a, eq-eqb (operandOf f j side) k b)
+  pub child-on : kindOf (opOf f j) side ≡ 2 → usesOn f j k side ≡ pick (eqb (operandOf f j side) k) 1 0
+  child-on a = rw (eq-eqb (kindOf (opOf f j) side) 2 a)
 
   pub not-used-on : kindOf (opOf f j) side ≡ 2 → ¬ (operandOf f j side ≡ k) → usesOn f j k side ≡ 0
   not-used-on a b = rw (eq-eqb (kindOf (opOf f j) side) 2 a, ne-eqb (operandOf f j side) k b)
@@ -38,11 +42,48 @@ module _ (f : List ℕ) (j k side : ℕ) where
   unfolding kindOf
   atom-uses l = rw (le-leb (opOf f j) 4 l)
 
-module _ (f : List ℕ) (k : ℕ) where
-  pub uses-none : uses f 0 k ≡ 0
-  unfolding uses
-  uses-none = refl
+-- a connective's kinds: a is a child, and so is b but for operator 8
+pub a-is-child : (o : ℕ) → 5 ≤ o → kindOf o 0 ≡ 2
+unfolding kindOf
+a-is-child o l = rw (lt-leb o 4 l) (pick-same (eqb o 8))
+  where
+    pick-same : (b : Bool) → pick (andb b (eqb 0 1)) 0 2 ≡ 2
+    pick-same true = refl
+    pick-same false = refl
 
+pub b-is-child : (o : ℕ) → 5 ≤ o → ¬ (o ≡ 8) → kindOf o 1 ≡ 2
+unfolding kindOf
+b-is-child o l e = rw (lt-leb o 4 l, ne-eqb o 8 e)
+
+pub b-of-8 : (o : ℕ) → o ≡ 8 → kindOf o 1 ≡ 0
+unfolding kindOf
+b-of-8 o e = rw e
+
+module _ (f : List ℕ) (k : ℕ) where
   pub uses-more : (j : ℕ) → uses f (j + 1) k ≡ uses f j k + (usesOn f j k 0 + usesOn f j k 1)
   unfolding uses
   uses-more j = rw (add-one j)
+
+-- a node is not used by itself or by a lower node: "Children have lower numbers than their parent."
+module _ (v : ℕ) (f : List ℕ) (n k : ℕ) (s : Sound v f n) where
+  side-low : (j side : ℕ) → j ≤ k → OperandOk v f j side → usesOn f j k side ≡ 0
+  unfolding Operand
+  side-low j side h ok = go (ℕ-discrete (kindOf (opOf f j) side) 2)
+    where
+      child : (t : ℕ) → t ≡ 2 → Operand v j t (operandOf f j side) → operandOf f j side < j
+      child zero e q = absurd (omega arith)
+      child (suc zero) e q = absurd (omega arith)
+      child (suc (suc t)) e q = q
+
+      go : Dec (kindOf (opOf f j) side ≡ 2) → usesOn f j k side ≡ 0
+      go (yes e) = not-used-on f j k side e (λ z. omega (arith, child (kindOf (opOf f j) side) e ok))
+      go (no e) = no-child-on f j k side e
+
+  pub uses-low : (j : ℕ) → j ≤ k + 1 → j ≤ n → uses f j k ≡ 0
+  unfolding uses
+  uses-low zero h m = refl
+  uses-low (suc j) h m =
+      let q = s j m .operands in
+      let a = side-low j 0 (omega arith) (q .0) in
+      let b = side-low j 1 (omega arith) (q .1) in
+      rw (uses-low j (omega arith) (omega arith), a, b)

@@ -14,8 +14,8 @@ use Rattle.logic.specs.Truth.{truth}
 use Rattle.logic.specs.TruthHolds.{truth-holds}
 use Rattle.logic.specs.Formula.{Form}
 use Rattle.logic.specs.Table.{Sound, tree}
-use Rattle.logic.specs.Book.{nodes, root, bookChecks, stretch, formulaOf, varsOf, locsOf, pathOf, Reads, Accepted, Body}
-use Rattle.logic.specs.BookLaws.{accepted-whole, body-given}
+use Rattle.logic.specs.Book.{nodes, root, bookChecks, stretch, formulaOf, varsOf, locsOf, pathOf, Reads, Accepted}
+use Rattle.logic.specs.BookLaws.{accepted-whole}
 use Rattle.logic.specs.Model.{byteChecks, modelChecks, stackIn, heapIn, Fits, FitsBook, Verdict, Judges}
 use Rattle.logic.specs.ModelLaws.{model-stack, model-heap}
 use Rattle.cells.specs.Cells.{most, cells, Unnamed}
@@ -62,13 +62,7 @@ unfolding Reads Judges
 judges-book s m a q f = answers-refused (bookChecks s) (Verdict (FitsBook s m)) (modelChecks (varsOf s) (locsOf s) m) a q f
 
 -- b and f are the bodies of an accepted book, and v, n and p its bounds
-module _ (s b f m : List ℕ) (ok : Accepted s) (qb : Body s 0 b) (qf : Body s 1 f) where
-  eb : b ≡ stretch s 0
-  eb = body-given s 0 b qb (accepted-whole s ok .laid, omega arith)
-
-  ef : f ≡ formulaOf s
-  ef = body-given s 1 f qf (accepted-whole s ok .laid, omega arith)
-
+module _ (s b f m : List ℕ) (ok : Accepted s) (eb : b ≡ stretch s 0) (ef : f ≡ formulaOf s) where
   pub bounds-three : length b ≡ 3
   bounds-three = ap length eb ∙ accepted-whole s ok .bounds .three
 

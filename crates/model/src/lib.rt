@@ -1,7 +1,7 @@
 // The model judge: whether a model's bytes fit a book. Any two byte strings are judged.
 use book::answer_of;
 use cells::unnamed;
-use contents::body;
+use contents::part;
 use contents::wide;
 use judge::node_holds;
 use logic::Answer;
@@ -107,8 +107,8 @@ pub fn judge(book: &[u8], model: &[u8]) -> Answer
     if first.number != logic::YES {
         return first;
     }
-    let b = body(book, 0);
-    let f = body(book, 1);
+    let b = part(book, 0);
+    let f = part(book, 1);
     let v = wide(b[0]);
     let n = wide(b[1]);
     let second = in_range(v, n, model);

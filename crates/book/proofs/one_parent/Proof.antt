@@ -14,10 +14,10 @@ use Rattle.book.proofs.one_parent.Statement.{statement}
 use Rattle.book.proofs.one_parent.Tie as tie
 
 abbrev Inv-loop : tie.InvT-loop
-Inv-loop f last left₀ left = (left ≤ last) × Passes (upto (useChecks f) (last - left))
+Inv-loop f v last left₀ left = (left ≤ last) × Passes (upto (useChecks f) (last - left))
 
 abbrev μ-loop : tie.MeasureT-loop
-μ-loop f last left₀ left = left
+μ-loop f v last left₀ left = left
 
 sub-last : tie.Need-sub-last Inv-loop μ-loop
 sub-last c = search needs
@@ -32,7 +32,7 @@ sub-k : tie.Need-sub-k Inv-loop μ-loop
 sub-k c = search needs
 
 uses-of-requires : tie.Need-uses-of-requires Inv-loop μ-loop
-uses-of-requires c κs = (c .before .before .before .pre .1, c .before .before .before .pre .2)
+uses-of-requires c κs = let b = c .before .before .before in (b .pre .1, b .pre .2, omega (arith, b .pre .0, c .loop-test .taken))
 
 answer-of-requires : tie.Need-answer-of-requires Inv-loop μ-loop
 answer-of-requires c κs = search needs

@@ -6,7 +6,7 @@ use lib.ListN.{getD}
 use Rattle.logic.specs.Numbers.{answer}
 use Rattle.logic.specs.Checks.{Passes}
 use Rattle.logic.specs.Book.{Reads}
-use Rattle.logic.specs.BookLaws.{laid-out, body-short, reads-contents, reads-bodies, reads-nodes, reads-uses, bodies-pass, nodes-pass, nodes-operators}
+use Rattle.logic.specs.BookLaws.{laid-out, body-short, reads-contents, reads-bodies, reads-nodes, reads-uses, bodies-pass, nodes-pass, nodes-sound}
 use Rattle.book.proofs.read.Statement.{statement}
 use Rattle.book.proofs.read.Tie as tie
 
@@ -22,11 +22,17 @@ returns c =
     let q = c .before .before .number in
     subst⁻¹ (Reads s) (c .answer-of .ensures) (reads-contents s (answer (q .result) 0) (q .ensures) (c .before .if1 .taken))
 
-body-requires : tie.Need-body-requires
-body-requires c κs = search needs
+part-requires : tie.Need-part-requires
+part-requires c κs =
+    let s = c .before .before .before .args .book .now in
+    let g = laid-out s (c .before .number .result) (c .before .number .ensures) (c .if1 .left) in
+    (g, omega arith)
 
-body-requires-2 : tie.Need-body-requires-2
-body-requires-2 c κs = search needs
+part-requires-2 : tie.Need-part-requires-2
+part-requires-2 c κs =
+    let s = c .before .before .before .before .args .book .now in
+    let g = laid-out s (c .before .before .number .result) (c .before .before .number .ensures) (c .before .if1 .left) in
+    (g, omega arith)
 
 bodies-requires : tie.Need-bodies-requires
 bodies-requires c κs = search needs
@@ -38,17 +44,17 @@ returns-2 : tie.Need-returns-2
 returns-2 c =
     let s = c .before .before .before .before .before .before .before .before .args .book .now in
     let g = laid-out s (c .before .before .before .before .before .before .number .result) (c .before .before .before .before .before .before .number .ensures) (c .before .before .before .before .before .if1 .left) in
-    let b = c .before .before .before .before .body .result .now in
-    let f = c .before .before .before .body2 .result .now in
+    let b = c .before .before .before .before .part .result .now in
+    let f = c .before .before .before .part2 .result .now in
     let q = c .before .before .bodies in
     subst⁻¹ (Reads s) (c .answer-of2 .ensures)
-    (reads-bodies s b f g (c .before .before .before .before .body .ensures) (c .before .before .before .body2 .ensures) (answer (q .result) 0) (q .ensures) (c .before .if2 .taken))
+    (reads-bodies s b f g (c .before .before .before .before .part .ensures) (c .before .before .before .part2 .ensures) (answer (q .result) 0) (q .ensures) (c .before .if2 .taken))
 
-shared-slice-read-nodes : tie.Need-shared-slice-read-nodes
+shared-slice-read-v : tie.Need-shared-slice-read-v
 unfolding Passes
-shared-slice-read-nodes c =
-    let b = c .before .before .before .before .body .result .now in
-    let f = c .before .before .before .body2 .result .now in
+shared-slice-read-v c =
+    let b = c .before .before .before .before .part .result .now in
+    let f = c .before .before .before .part2 .result .now in
     let p = bodies-pass b f (c .before .before .bodies .result) (c .before .before .bodies .ensures) (c .before .if2 .left) in
     omega (arith, p .0 .three)
 
@@ -59,31 +65,31 @@ returns-3 : tie.Need-returns-3
 returns-3 c =
     let s = c .before .before .before .before .before .before .before .before .before .before .before .args .book .now in
     let g = laid-out s (c .before .before .before .before .before .before .before .before .before .number .result) (c .before .before .before .before .before .before .before .before .before .number .ensures) (c .before .before .before .before .before .before .before .before .if1 .left) in
-    let b = c .before .before .before .before .before .before .before .body .result .now in
-    let f = c .before .before .before .before .before .before .body2 .result .now in
+    let b = c .before .before .before .before .before .before .before .part .result .now in
+    let f = c .before .before .before .before .before .before .part2 .result .now in
     let p = bodies-pass b f (c .before .before .before .before .before .bodies .result) (c .before .before .before .before .before .bodies .ensures) (c .before .before .before .before .if2 .left) in
-    reads-nodes s b f g (c .before .before .before .before .before .before .before .body .ensures) (c .before .before .before .before .before .before .body2 .ensures) (c .before .before .nodes .result) p (c .before .before .nodes .ensures) (c .if3 .taken)
+    reads-nodes s b f g (c .before .before .before .before .before .before .before .part .ensures) (c .before .before .before .before .before .before .part2 .ensures) (c .before .before .nodes .result) p (c .before .before .nodes .ensures) (c .if3 .taken)
 
 one-parent-requires : tie.Need-one-parent-requires
 unfolding Passes
 one-parent-requires c κs =
     let s = c .before .before .before .before .before .before .before .before .before .before .before .args .book .now in
     let g = laid-out s (c .before .before .before .before .before .before .before .before .before .number .result) (c .before .before .before .before .before .before .before .before .before .number .ensures) (c .before .before .before .before .before .before .before .before .if1 .left) in
-    let b = c .before .before .before .before .before .before .before .body .result .now in
-    let f = c .before .before .before .before .before .before .body2 .result .now in
+    let b = c .before .before .before .before .before .before .before .part .result .now in
+    let f = c .before .before .before .before .before .before .part2 .result .now in
     let p = bodies-pass b f (c .before .before .before .before .before .bodies .result) (c .before .before .before .before .before .bodies .ensures) (c .before .before .before .before .if2 .left) in
     let k = nodes-pass (getD b 0 0) f (c .before .before .nodes .result) (c .before .before .nodes .ensures) (c .if3 .left) in
-    (omega (arith, p .1 .0 .0, p .1 .0 .1), omega (arith, body-short s 1 f g (omega arith) (c .before .before .before .before .before .before .body2 .ensures)), nodes-operators (getD b 0 0) f k)
+    (omega (arith, p .1 .0 .0, p .1 .0 .1), omega (arith, body-short s 1 f (g, omega arith) (c .before .before .before .before .before .before .part2 .ensures)), nodes-sound (getD b 0 0) f k)
 
 returns-4 : tie.Need-returns-4
 returns-4 c =
     let s = c .before .before .before .before .before .before .before .before .before .before .before .before .args .book .now in
     let g = laid-out s (c .before .before .before .before .before .before .before .before .before .before .number .result) (c .before .before .before .before .before .before .before .before .before .before .number .ensures) (c .before .before .before .before .before .before .before .before .before .if1 .left) in
-    let b = c .before .before .before .before .before .before .before .before .body .result .now in
-    let f = c .before .before .before .before .before .before .before .body2 .result .now in
+    let b = c .before .before .before .before .before .before .before .before .part .result .now in
+    let f = c .before .before .before .before .before .before .before .part2 .result .now in
     let p = bodies-pass b f (c .before .before .before .before .before .before .bodies .result) (c .before .before .before .before .before .before .bodies .ensures) (c .before .before .before .before .before .if2 .left) in
     let k = nodes-pass (getD b 0 0) f (c .before .before .before .nodes .result) (c .before .before .before .nodes .ensures) (c .before .if3 .left) in
-    reads-uses s b f g (c .before .before .before .before .before .before .before .before .body .ensures) (c .before .before .before .before .before .before .before .body2 .ensures) (c .one-parent .result) p k (c .one-parent .ensures)
+    reads-uses s b f g (c .before .before .before .before .before .before .before .before .part .ensures) (c .before .before .before .before .before .before .before .part2 .ensures) (c .one-parent .result) p k (c .one-parent .ensures)
 
 pub read-spec : {M : Type 1} → statement M
 read-spec =
@@ -92,12 +98,12 @@ read-spec =
     number-requires
     answer-of-requires
     returns
-    body-requires
-    body-requires-2
+    part-requires
+    part-requires-2
     bodies-requires
     answer-of-requires-2
     returns-2
-    shared-slice-read-nodes
+    shared-slice-read-v
     nodes-requires
     returns-3
     one-parent-requires

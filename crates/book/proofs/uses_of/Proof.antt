@@ -2,32 +2,36 @@
 use borrow.Author.Needs.{needs}
 use mathlib.Core.Path.{_≡_, _∙_, sym, ap, ap₂}
 use Prim.Native.Nat.{ℕ, _+_, _-_, _*_, _/_, _≤_}
-use lib.ListN.{length}
 use native.Mathlib.Omega.{arith}
+use lib.ListN.{length}
 use Rattle.logic.specs.Table.{uses}
-use Rattle.logic.specs.TableLaws.{uses-none, uses-more}
+use Rattle.logic.specs.TableLaws.{uses-low, uses-more}
 use Rattle.book.proofs.uses_of.Statement.{statement}
 use Rattle.book.proofs.uses_of.Tie as tie
 
 abbrev Inv-loop : tie.InvT-loop
-Inv-loop f k n count₀ j₀ count j = (j ≤ n) × (count ≤ 2 * j) × (count ≡ uses f j k)
+Inv-loop f v k n count₀ j₀ count j = (j ≤ n) × (count ≤ 2 * j) × (count ≡ uses f j k)
 
 abbrev μ-loop : tie.MeasureT-loop
-μ-loop f k n count₀ j₀ count j = n - j
+μ-loop f v k n count₀ j₀ count j = n - j
+
+add-j : tie.Need-add-j Inv-loop μ-loop
+add-j c = omega (arith, c .before .pre .2)
 
 loop-holds : tie.Need-loop-holds Inv-loop μ-loop
 loop-holds c =
-    let a = c .before .args in
-    (search needs, search needs, sym (uses-none (a .f .now) (a .k)))
+    let b = c .before in
+    let a = b .args in
+    (omega (arith, b .pre .2), search needs, sym (uses-low (a .v) (a .f .now) (length (a .f .now) / 3) (a .k) (b .pre .1) (a .k + 1) (omega arith) (omega (arith, b .pre .2))))
 
 uses-by-requires : tie.Need-uses-by-requires Inv-loop μ-loop
-uses-by-requires c κs = (omega arith, c .before .before .before .pre .1 _ (c .loop-test .taken))
+uses-by-requires c κs = (omega arith, c .before .before .before .pre .1 _ (c .loop-test .taken) .operator)
 
 add-count : tie.Need-add-count Inv-loop μ-loop
 add-count c = omega (arith, c .uses-by .ensures .1)
 
-add-j : tie.Need-add-j Inv-loop μ-loop
-add-j c = search needs
+add-j-2 : tie.Need-add-j-2 Inv-loop μ-loop
+add-j-2 c = search needs
 
 loop-less : tie.Need-loop-less Inv-loop μ-loop
 loop-less c = search needs
@@ -51,10 +55,11 @@ uses-of-spec =
     (tie.spec
     Inv-loop
     μ-loop
+    add-j
     loop-holds
     uses-by-requires
     add-count
-    add-j
+    add-j-2
     loop-less
     loop-again
     returns)

@@ -1,6 +1,6 @@
 -- `cells::bit` meets its contract. Assumes nothing.
 use borrow.Author.Needs.{needs}
-use Rattle.cells.specs.Built.{bit-law}
+use Rattle.cells.specs.Packing.{bit-law}
 use Rattle.cells.proofs.bit.Statement.{statement}
 use Rattle.cells.proofs.bit.Tie as tie
 

@@ -1,8 +1,9 @@
 -- `cells::is_list` meets its contract. Assumes nothing.
-use Rattle.cells.specs.Packing.{cells-lt}
 use native.Mathlib.Omega.{arith}
 use borrow.Author.Needs.{needs}
-use Rattle.cells.specs.Lists.{Walk, walk-start, walk-there, walk-short, walk-broken, walk-some, walk-on}
+use Rattle.cells.specs.Packing.{cells-lt}
+use Rattle.cells.specs.Loops.{Walk}
+use Rattle.cells.specs.Lists.{walk-start, walk-there, walk-short, walk-broken, walk-some, walk-on}
 use Rattle.cells.proofs.is_list.Statement.{statement}
 use Rattle.cells.proofs.is_list.Tie as tie
 

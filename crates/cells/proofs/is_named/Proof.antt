@@ -1,12 +1,12 @@
 -- `cells::is_named` meets its contract. Assumes nothing.
-use Rattle.cells.specs.Cells.{cells}
-use Rattle.logic.specs.Reflect.{false-true}
-use borrow.Author.Count.{below-more}
+use mathlib.Core.Path.{_≡_, refl, sym, _∙_}
+use Prim.Native.Nat.{ℕ, suc, _-_, _<_, _≤_}
 use native.Mathlib.Nat.{not-suc-le-zero}
 use native.Mathlib.Omega.{arith}
-use Prim.Native.Nat.{ℕ, suc, _-_, _<_, _≤_}
-use mathlib.Core.Path.{_≡_, refl, sym, _∙_}
+use borrow.Author.Count.{below-more}
 use borrow.Author.Needs.{needs}
+use Rattle.logic.specs.Reflect.{false-true}
+use Rattle.cells.specs.Cells.{cells}
 use Rattle.cells.proofs.is_named.Statement.{statement}
 use Rattle.cells.proofs.is_named.Tie as tie
 

@@ -1,9 +1,10 @@
 -- `cells::table` meets its contract. Assumes nothing.
-use Rattle.cells.specs.Cells.{most}
-use native.Mathlib.Omega.{arith}
 use Prim.Native.Nat.{suc, _-_, _≤_}
+use native.Mathlib.Omega.{arith}
 use borrow.Author.Needs.{needs}
-use Rattle.cells.specs.Tables.{Tabling, tabled-nothing, tabling-none, tabling-more, tabling-done}
+use Rattle.cells.specs.Cells.{most}
+use Rattle.cells.specs.Loops.{Tabling}
+use Rattle.cells.specs.Tables.{tabled-nothing, tabling-none, tabling-more, tabling-done}
 use Rattle.cells.proofs.table.Statement.{statement}
 use Rattle.cells.proofs.table.Tie as tie
 

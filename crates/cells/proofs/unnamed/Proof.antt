@@ -6,7 +6,8 @@ use borrow.Author.Needs.{needs}
 use Rattle.cells.specs.Cells.{cells}
 use Rattle.cells.specs.Sets.{built-none}
 use Rattle.cells.specs.Packing.{cells-nil}
-use Rattle.cells.specs.Built.{unnamedFrom, unnamed-lt, unnamed-next, unnamed-law}
+use Rattle.cells.specs.Loops.{unnamedFrom}
+use Rattle.cells.specs.Unnamed.{unnamed-lt, unnamed-next, unnamed-law}
 use Rattle.cells.proofs.unnamed.Statement.{statement}
 use Rattle.cells.proofs.unnamed.Tie as tie
 
