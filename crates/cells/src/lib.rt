@@ -95,7 +95,7 @@ pub fn table(u: u64, w: u64) -> u64
 }
 
 // The union of the sets in t's bytes.
-pub fn fold(t: u64) -> u64
+fn fold(t: u64) -> u64
     ensures { λ r. ⌜ Folded t r ⌝ }
 {
     let y = t | (t >> 32);

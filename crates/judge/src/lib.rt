@@ -65,8 +65,8 @@ pub fn node_holds(f: &[u8; 192], k: usize, b: &[u64; 5], w: u64) -> bool
     }
 }
 
-// The same for a node that is a child. With two callers `join` is compiled apart, and an atom then saves no registers: that
-// is worth a fifth of the time, and more where the heap is all that changes.
+// The same for a node that is a child. With two callers `join` is compiled apart, so that an atom saves no registers: all
+// formulas are judged a tenth to a third faster.
 fn child_holds(f: &[u8; 192], k: usize, b: &[u64; 5], w: u64) -> bool
     requires { ⌜ Ready (now f) (now b) k × Heap (locsOf (now b)) (cells w) ⌝ }
     ensures { λ r. ⌜ r ≡ truthAt (now (f .entry)) (now (b .entry)) k (cells w) ⌝ }
@@ -167,29 +167,29 @@ fn serves(f: &[u8; 192], k: usize, b: &[u64; 5], w: u64, t: u64, m: u64) -> bool
 }
 
 // Whether some added heap serves. Only locations where a cell may be added are filled, from the last down and each digit
-// upward: that is the candidates' order.
+// upward: that is the candidates' order. No added cell may touch the barred locations, which are w's unnamed ones.
 fn added(f: &[u8; 192], k: usize, b: &[u64; 5], w: u64) -> bool
     requires { ⌜ Joined (now f) (now b) k × Heap (locsOf (now b)) (cells w) ⌝ }
     ensures { λ r. ⌜ Found (now (f .entry)) (now (b .entry)) k w (locsOf (now (b .entry))) 0 r ⌝ }
 {
-    let u = met(b[4], w);
-    let l = source_below(w, u, b[1]);
+    let barred = met(b[4], w);
+    let l = source_below(w, barred, b[1]);
     if l == 0 {
         return both(f, k, b, 0, w);
     }
-    fill(f, k, b, w, u, l, 0)
+    fill(f, k, b, w, barred, l, 0)
 }
 
 // Whether some heap serves that is g above location l, where a cell may be.
-fn fill(f: &[u8; 192], k: usize, b: &[u64; 5], w: u64, u: u64, l: u64, g: u64) -> bool
-    requires { ⌜ Joined (now f) (now b) k × Heap (locsOf (now b)) (cells w) × Filled (locsOf (now b)) (unnamedOf (now b)) w u l g × (0 < l) × Source w u l ⌝ }
+fn fill(f: &[u8; 192], k: usize, b: &[u64; 5], w: u64, barred: u64, l: u64, g: u64) -> bool
+    requires { ⌜ Joined (now f) (now b) k × Heap (locsOf (now b)) (cells w) × Filled (locsOf (now b)) (unnamedOf (now b)) w barred l g × (0 < l) × Source w barred l ⌝ }
     ensures { λ r. ⌜ Found (now (f .entry)) (now (b .entry)) k w l g r ⌝ }
 {
-    let next = source_below(w, u, l - 1);
+    let next = source_below(w, barred, l - 1);
     let top = b[1] + 1;
     let mut d: u64 = 0;
     while d <= top {
-        if digit(f, k, b, w, u, l, next, g, d) {
+        if digit(f, k, b, w, barred, l, next, g, d) {
             return true;
         }
         d += 1;
@@ -203,21 +203,21 @@ fn digit(
     k: usize,
     b: &[u64; 5],
     w: u64,
-    u: u64,
+    barred: u64,
     l: u64,
     next: u64,
     g: u64,
     d: u64,
 ) -> bool
-    requires { ⌜ Joined (now f) (now b) k × Heap (locsOf (now b)) (cells w) × Filled (locsOf (now b)) (unnamedOf (now b)) w u l g × (0 < l) × Source w u l × (next < l) × SourceBelow w u (l - 1) next × (d ≤ suc (locsOf (now b))) ⌝ }
+    requires { ⌜ Joined (now f) (now b) k × Heap (locsOf (now b)) (cells w) × Filled (locsOf (now b)) (unnamedOf (now b)) w barred l g × (0 < l) × Source w barred l × (next < l) × SourceBelow w barred (l - 1) next × (d ≤ suc (locsOf (now b))) ⌝ }
     ensures { λ r. ⌜ FoundAt (now (f .entry)) (now (b .entry)) k w l g d r ⌝ }
 {
-    if !is_target(u, d) {
+    if !is_target(barred, d) {
         return false;
     }
     let h = g | placed(d, l);
     if next == 0 {
         return both(f, k, b, h, h | w);
     }
-    fill(f, k, b, w, u, next, h)
+    fill(f, k, b, w, barred, next, h)
 }
