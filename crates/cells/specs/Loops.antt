@@ -1,22 +1,23 @@
 -- What the loops of this crate keep. Nobody has to believe these: the proofs of the loops cite them. Assumes nothing: these are
 -- definitions.
 use mathlib.Core.Path.{_≡_}
-use mathlib.Core.Bool.{Bool, true, not}
+use mathlib.Core.Bool.{true}
 use mathlib.Core.Logic.{_⊎_}
-use Prim.Native.Nat.{ℕ, suc, _+_, _-_, _^_, _<_, _≤_}
-use Rattle.logic.specs.Heap.{Map, Heap, Value}
-use Rattle.logic.specs.Tests.{pick, inPart, named, chain}
-use Rattle.logic.specs.Digits.{numOf}
+use Prim.Native.Nat.{ℕ, suc, _+_, _^_, _<_, _≤_}
+use Rattle.logic.specs.Heap.{Heap, Value, Named}
+use Rattle.logic.specs.Tests.{inPart, chain}
 use Rattle.logic.specs.Reflect.{Is}
 use Rattle.cells.specs.Cells.{most, cells, Touches, Source}
 
--- the set of the locations above l, up to n, that pass P, moved down by l
-unfoldable pub built : (ℕ → Bool) → ℕ → ℕ → ℕ
-built P n l = numOf 2 (n - l) (λ i. pick (P (suc (l + i))) 1 0)
+-- j is one of the first i locations that x packs
+abbrev pub LocationOf : ℕ → ℕ → ℕ → Type 0
+LocationOf x i j = (y : ℕ) × (1 ≤ y) × (y ≤ i) × (cells x y ≡ j)
 
--- of those that are not named
-abbrev pub unnamedFrom : ℕ → ℕ → Map → ℕ → ℕ
-unnamedFrom v n s l = built (λ ℓ. not (named v s ℓ)) n l
+-- m has the locations, up to n, of the variables of the stack s but the last i, which x packs; location j in bit j
+pub record Naming (v n s x i m : ℕ) : Type 0 where
+  pub small : m < 2 ^ suc n
+  pub to : (j : ℕ) → suc j ≤ n → (inPart m (suc (suc j)) ≡ true) ⊎ LocationOf x i (suc j) → Named v (cells s) (suc j)
+  pub from : (j : ℕ) → suc j ≤ n → Named v (cells s) (suc j) → (inPart m (suc (suc j)) ≡ true) ⊎ LocationOf x i (suc j)
 
 -- t has the sets of w's cells below l, and nothing from l on
 unfoldable pub Tabling : ℕ → ℕ → ℕ → ℕ → Type 0

@@ -65,6 +65,15 @@ same-suc i x = go (ℕ-discrete i x)
     go (yes e) = eq-eqb i x e ∙ sym (eq-eqb (suc i) (suc x) (ap suc e))
     go (no n) = ne-eqb i x n ∙ sym (ne-eqb (suc i) (suc x) (λ (e : suc i ≡ suc x). n (omega arith)))
 
+-- the lowest field, and the others
+pub first-field : (x : ℕ) → cells x 1 ≡ x % 256
+unfolding cells digit
+first-field x = refl
+
+pub next-field : (x i : ℕ) → cells (x / 256) (suc i) ≡ cells x (suc (suc i))
+unfolding cells digit
+next-field x i = refl
+
 -- ---- as code works it out
 pub cell-none : (w l : ℕ) → l ≡ 0 → 0 ≡ cells w l
 cell-none w l e = rw e (sym (cells-nil w))

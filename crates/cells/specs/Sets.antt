@@ -1,19 +1,16 @@
--- Laws of sets of locations: the members of a meet and of a union, equal sets, and a set built from its highest member down.
--- Assumes nothing.
-use mathlib.Core.Path.{_≡_, refl, sym, subst, _∙_, ap, ap₂, fun-ext}
-use mathlib.Core.Bool.{Bool, true, false}
-use Prim.Native.Nat.{ℕ, zero, suc, zero-le, _+_, _*_, _-_, _/_, _^_, _<_, _≤_}
-use native.Mathlib.Nat.{not-suc-le-zero, pow-suc, pow-zero, pow-le-pow-right, le-of-suc-le-suc, lt-of-le-of-lt, lt-of-lt-of-le, div-lt-iff-lt-mul, add-zero, add-suc, suc-add, zero-add, one-mul}
-use native.Mathlib.Decide.{decLt}
+-- Laws of sets of locations: the members of meets, unions and differences, and equal sets. Assumes nothing.
+use mathlib.Core.Path.{_≡_, refl, sym, subst, _∙_, ap}
+use mathlib.Core.Bool.{Bool, true, false, not}
+use Prim.Native.Nat.{ℕ, zero, suc, zero-le, _-_, _/_, _%_, _^_, _<_}
+use native.Mathlib.Nat.{not-suc-le-zero, pow-suc, pow-zero, pow-le-pow-right, le-of-suc-le-suc, lt-of-le-of-lt, lt-of-lt-of-le, div-lt-iff-lt-mul, one-mul, one-le-pow}
 use native.Mathlib.Omega.{arith}
-use lib.Dec.{eqb, ltb}
-use lib.Bits.{bitAnd, bitOr, and-le-l}
-use borrow.Author.Tests.{eqb-true, eqb-false, lt-ltb, le-ltb}
-use Rattle.logic.specs.Tests.{andb, orb, pick, digit, inPart}
-use Rattle.logic.specs.Digits.{numOf, numOf-lt, digit-num, digit-lt}
+use lib.Dec.{eqb}
+use lib.Bits.{bitAnd, bitOr, bitXor, and-le-l}
+use borrow.Author.Tests.{eqb-true, eqb-false}
+use Rattle.logic.specs.Tests.{andb, orb, pick, pickb, digit, inPart}
+use Rattle.logic.specs.Digits.{digit-lt}
 use Rattle.logic.specs.Reflect.{Is, false-true, is-iff, is-eq}
-use Rattle.cells.specs.Loops.{built}
-use Rattle.cells.specs.Bits.{digit-zero, digit-past, same-digits, digit-and, digit-or, digit-placed}
+use Rattle.cells.specs.Bits.{digit-zero, digit-past, same-digits, digit-and, digit-or, digit-xor, digit-placed}
 
 -- two tests of one fact are equal
 pub is-same : (a b : Bool) {P : Type 0} → Is a P → Is b P → a ≡ b
@@ -38,6 +35,13 @@ or-bits (suc zero) (suc zero) p q = refl
 or-bits (suc zero) (suc (suc y)) p q = absurd (not-suc-le-zero (le-of-suc-le-suc (le-of-suc-le-suc q)))
 or-bits (suc (suc x)) y p q = absurd (not-suc-le-zero (le-of-suc-le-suc (le-of-suc-le-suc p)))
 
+xor-bits : (x y : ℕ) → x < 2 → y < 2 → eqb (bitXor x y) 1 ≡ pickb (eqb x 1) (not (eqb y 1)) (eqb y 1)
+xor-bits zero y p q = refl
+xor-bits (suc zero) zero p q = refl
+xor-bits (suc zero) (suc zero) p q = refl
+xor-bits (suc zero) (suc (suc y)) p q = absurd (not-suc-le-zero (le-of-suc-le-suc (le-of-suc-le-suc q)))
+xor-bits (suc (suc x)) y p q = absurd (not-suc-le-zero (le-of-suc-le-suc (le-of-suc-le-suc p)))
+
 pub in-and : (a b ℓ : ℕ) → inPart (bitAnd a b) ℓ ≡ andb (inPart a ℓ) (inPart b ℓ)
 unfolding inPart
 in-and a b zero = refl
@@ -49,6 +53,17 @@ unfolding inPart
 in-or a b zero = refl
 in-or a b (suc i) =
     ap (λ (q : ℕ). eqb q 1) (digit-or 1 a b i) ∙ or-bits (digit 2 a i) (digit 2 b i) (digit-lt 2 a i two-pos) (digit-lt 2 b i two-pos)
+
+pub in-xor : (a b ℓ : ℕ) → inPart (bitXor a b) ℓ ≡ pickb (inPart a ℓ) (not (inPart b ℓ)) (inPart b ℓ)
+unfolding inPart
+in-xor a b zero = refl
+in-xor a b (suc i) =
+    ap (λ (q : ℕ). eqb q 1) (digit-xor 1 a b i) ∙ xor-bits (digit 2 a i) (digit 2 b i) (digit-lt 2 a i two-pos) (digit-lt 2 b i two-pos)
+
+-- the members of a set that is moved down by one
+pub in-half : (m i : ℕ) → inPart (m / 2) (suc i) ≡ inPart m (suc (suc i))
+unfolding inPart digit
+in-half m i = refl
 
 pub in-nil : (m : ℕ) → inPart m 0 ≡ false
 unfolding inPart
@@ -65,20 +80,32 @@ unfolding inPart
 in-past k m zero h l = refl
 in-past k m (suc i) h l = ap (λ (q : ℕ). eqb q 1) (digit-past 2 k m i two-pos h (le-of-suc-le-suc l))
 
-one-of : (b : Bool) → eqb (pick b 1 0) 1 ≡ b
-one-of true = refl
-one-of false = refl
+pub bit-of : (b : Bool) → eqb (pick b 1 0) 1 ≡ b
+bit-of true = refl
+bit-of false = refl
 
 -- the set that is one bit
 pub in-pow : (l i : ℕ) → inPart (2 ^ l) (suc i) ≡ eqb i l
 unfolding inPart
 in-pow l i =
-    ap (λ (q : ℕ). eqb (digit 2 q i) 1) (sym (one-mul (2 ^ l))) ∙ ap (λ (q : ℕ). eqb q 1) (digit-placed 2 1 l i (omega arith)) ∙ one-of (eqb i l)
+    ap (λ (q : ℕ). eqb (digit 2 q i) 1) (sym (one-mul (2 ^ l))) ∙ ap (λ (q : ℕ). eqb q 1) (digit-placed 2 1 l i (omega arith)) ∙ bit-of (eqb i l)
 
 -- the set of one location; that of nil is empty
 pub in-just : (l i : ℕ) → inPart (2 ^ l / 2) (suc i) ≡ eqb (suc i) l
+in-just l i = in-half (2 ^ l) i ∙ in-pow l (suc i)
+
+-- each location up to k is in the greatest set below 2 ^ k
+pub in-all : (k i : ℕ) → i < k → inPart (2 ^ k - 1) (suc i) ≡ true
 unfolding inPart digit
-in-just l i = in-pow l (suc i)
+in-all zero i l = absurd (not-suc-le-zero l)
+in-all (suc k) zero l =
+    let p = one-le-pow k 2 two-pos in
+    let odd : (2 ^ suc k - 1) % 2 ≡ 1 = rw (pow-suc 2 k) (omega arith) in
+    rw odd
+in-all (suc k) (suc i) l =
+    let p = one-le-pow k 2 two-pos in
+    let half : (2 ^ suc k - 1) / 2 ≡ 2 ^ k - 1 = rw (pow-suc 2 k) (omega arith) in
+    rw half (in-all k i (le-of-suc-le-suc l))
 
 no-one : (x : ℕ) → x < 2 → eqb x 1 ≡ false → x ≡ 0
 no-one zero l e = refl
@@ -126,39 +153,3 @@ is-meet-nothing k a b l =
     both false q f = refl
     both true false f = refl
     both true true f = absurd (f refl refl)
-
--- ---- a set that is built from its highest member down
-module _ (P : ℕ → Bool) (n : ℕ) where
-  bit-lt : (b : Bool) → pick b 1 0 < 2
-  bit-lt true = omega arith
-  bit-lt false = omega arith
-
-  pub built-none : built P n n ≡ 0
-  unfolding built numOf
-  built-none = let e : n - n ≡ 0 = omega arith in rw e
-
-  pub built-more : (l m r : ℕ) → 0 < l → l ≤ n → m ≡ built P n l → r ≡ pick (P l) 1 0 → 2 * m + r ≡ built P n (l - 1)
-  unfolding built numOf
-  built-more zero m r h k e f = absurd (not-suc-le-zero h)
-  built-more (suc l) m r h k e f =
-      let z : suc l - 1 ≡ l = omega arith in
-      let s : n - l ≡ suc (n - suc l) = omega arith in
-      let q : _≡_ {A = ℕ → ℕ} (λ i. pick (P (suc (suc l + i))) 1 0) (λ i. pick (P (suc (l + suc i))) 1 0) = fun-ext λ i. ap (λ (j : ℕ). pick (P (suc j)) 1 0) (suc-add l i ∙ sym (add-suc l i)) in
-      rw (z, s, add-zero l) (ap₂ (λ (x y : ℕ). 2 * x + y) (e ∙ ap (numOf 2 (n - suc l)) q) f ∙ omega arith)
-
-  pub built-lt : (l k : ℕ) → n ≤ k → built P n l < 2 ^ k
-  unfolding built
-  built-lt l k h =
-      lt-of-lt-of-le (numOf-lt 2 (n - l) (λ i. pick (P (suc (l + i))) 1 0) (λ i. bit-lt (P (suc (l + i)))))
-      (pow-le-pow-right {n = 2} two-pos (omega arith))
-
-  pub in-built : (i : ℕ) → inPart (built P n 0) (suc i) ≡ andb (ltb i n) (P (suc i))
-  unfolding built inPart
-  in-built i = go (decLt i n)
-    where
-      go : Dec (i < n) → inPart (built P n 0) (suc i) ≡ andb (ltb i n) (P (suc i))
-      go (yes l) =
-          let z : n - 0 ≡ n = omega arith in
-          rw (z, lt-ltb i n l)
-          (ap (λ (x : ℕ). eqb x 1) (digit-num 2 n (λ j. pick (P (suc (0 + j))) 1 0) (λ j. bit-lt (P (suc (0 + j)))) i l ∙ ap (λ (j : ℕ). pick (P (suc j)) 1 0) (zero-add i)) ∙ one-of (P (suc i)))
-      go (no l) = rw (le-ltb i n (omega arith)) (in-past n (built P n 0) (suc i) (built-lt 0 n (omega arith)) (omega arith))

@@ -18,7 +18,7 @@ use Rattle.cells.specs.Cells.{most, full, cells, Taken, Values, Met, Sou
 use Rattle.cells.specs.Loops.{Noted, Noting, NoSource}
 use Rattle.cells.specs.Bits.{digit-is}
 use Rattle.cells.specs.Sets.{in-nil, in-and, in-or, in-nothing, in-pow}
-use Rattle.cells.specs.Packing.{cells-nil, cells-zero}
+use Rattle.cells.specs.Packing.{cells-nil, cells-zero, first-field, next-field}
 
 -- ---- the values
 
@@ -30,15 +30,6 @@ noting-first w k =
       to = λ j. ⊎-elim (λ e. false-true (sym (in-nothing (suc (suc j))) ∙ e)) (λ q. q);
       from = λ j q. inr q;
     }
-
--- the lowest field, and the others
-first-field : (x : ℕ) → cells x 1 ≡ x % 256
-unfolding cells digit
-first-field x = refl
-
-next-field : (x i : ℕ) → cells (x / 256) (suc i) ≡ cells x (suc (suc i))
-unfolding cells digit
-next-field x i = refl
 
 pub noting-low : (w x v : ℕ) → Noting w x v → x % 256 ≤ suc most
 noting-low w x v q = subst (λ (d : ℕ). d ≤ suc most) (first-field x) (q .low 1)

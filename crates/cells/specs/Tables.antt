@@ -34,8 +34,8 @@ locs-touches h j q = ⊎-elim (λ a. (j, inl (a, refl))) (λ e. (e .0, inr (e .1
 pub touches-nothing : (ℓ j : ℕ) → ¬ Touches ℓ 0 j
 touches-nothing ℓ j t = ⊎-elim (λ q. q .0 refl) (λ (e : 0 ≡ suc j). omega arith) t
 
-in-half : (a b i : ℕ) → inPart (bitOr a b / 2) (suc i) ≡ orb (inPart (a / 2) (suc i)) (inPart (b / 2) (suc i))
-in-half a b i = ap (λ (x : ℕ). inPart x (suc i)) (or-shr a b 1) ∙ in-or (a / 2) (b / 2) (suc i)
+in-half-or : (a b i : ℕ) → inPart (bitOr a b / 2) (suc i) ≡ orb (inPart (a / 2) (suc i)) (inPart (b / 2) (suc i))
+in-half-or a b i = ap (λ (x : ℕ). inPart x (suc i)) (or-shr a b 1) ∙ in-or (a / 2) (b / 2) (suc i)
 
 pub touched-none : (u ℓ d : ℕ) → d ≡ 0 → Touched u ℓ d 0
 touched-none u ℓ d e =
@@ -69,7 +69,7 @@ touched-law u ℓ d h nz = record { small = lt-of-le-of-lt (and-le-r (bitOr (2 ^
         }
     member′ (suc i) =
         subst (λ (b : Bool). Is b (Touches ℓ d (suc i) × (inPart u (suc i) ≡ true)))
-        (sym (in-and (bitOr (2 ^ ℓ) (2 ^ (d - 1)) / 2) u (suc i) ∙ ap (λ (b : Bool). andb b (inPart u (suc i))) (in-half (2 ^ ℓ) (2 ^ (d - 1)) i ∙ ap₂ orb (in-just ℓ i) (in-just (d - 1) i))))
+        (sym (in-and (bitOr (2 ^ ℓ) (2 ^ (d - 1)) / 2) u (suc i) ∙ ap (λ (b : Bool). andb b (inPart u (suc i))) (in-half-or (2 ^ ℓ) (2 ^ (d - 1)) i ∙ ap₂ orb (in-just ℓ i) (in-just (d - 1) i))))
         (is-and (orb (eqb (suc i) ℓ) (eqb (suc i) (d - 1))) (inPart u (suc i)) (is-touch i) (is-self (inPart u (suc i))))
 
 -- ---- the table of all cells

@@ -5,17 +5,15 @@ use Prim.Native.Nat.{ℕ, zero, suc, _+_, _*_, _/_, _%_, _^_, _<_, _≤_}
 use native.Mathlib.Nat.{lt-of-le-of-lt}
 use native.Mathlib.Decide.{decLt}
 use native.Mathlib.Omega.{arith}
-use lib.Dec.{eqb, ltb}
+use lib.Dec.{eqb}
 use lib.Bits.{bitAnd, and-le-r, and-zero-r}
-use borrow.Author.Tests.{lt-ltb, le-ltb}
 use Rattle.logic.specs.Heap.{Heap}
-use Rattle.logic.specs.Tests.{andb, pick, all, digit, inPart, allocated}
+use Rattle.logic.specs.Tests.{pick, all, digit, inPart, allocated}
 use Rattle.logic.specs.Digits.{numOf, numOf-lt, digit-num}
 use Rattle.logic.specs.Reflect.{is-eq, is-all}
 use Rattle.cells.specs.Cells.{most, full, word, cells, Taken}
-use Rattle.cells.specs.Loops.{built}
 use Rattle.cells.specs.Bits.{digit-past, digit-and, digit-sum, sum-lt}
-use Rattle.cells.specs.Sets.{in-nil, in-past, built-lt, in-built}
+use Rattle.cells.specs.Sets.{in-nil, in-past, bit-of}
 use Rattle.cells.specs.Packing.{cells-nil, cells-past, same-cells}
 
 -- a byte of 127, and of 128, for each location
@@ -94,21 +92,29 @@ module _ (w : ℕ) (h : w < word) (k : Heap most (cells w)) where
           rw (digit-past 256 most top1 i (omega arith) (omega arith) (omega arith), digit-past 256 most w i (omega arith) h (omega arith))
           (and-zero-r (digit 256 (w + low7) i))
 
-  -- the set, built location by location
+  -- the set by its bits
   setOf : ℕ
-  setOf = built (allocated (cells w)) most 0
+  setOf = numOf 2 most (λ i. pick (allocated (cells w) (suc i)) 1 0)
 
   set-taken : Taken w setOf
-  unfolding setOf
-  set-taken = record { small = built-lt (allocated (cells w)) most 0 most (omega arith); member = each }
+  unfolding setOf inPart
+  set-taken = record { small = numOf-lt 2 most (λ i. pick (allocated (cells w) (suc i)) 1 0) (λ i. bit-lt (allocated (cells w) (suc i))); member = each }
     where
-      each : (ℓ : ℕ) → inPart (built (allocated (cells w)) most 0) ℓ ≡ allocated (cells w) ℓ
-      each zero = in-nil (built (allocated (cells w)) most 0) ∙ rw (cells-nil w)
-      each (suc i) = in-built (allocated (cells w)) most i ∙ go (decLt i most)
+      bit-lt : (b : Bool) → pick b 1 0 < 2
+      bit-lt true = omega arith
+      bit-lt false = omega arith
+
+      each : (ℓ : ℕ) → inPart (numOf 2 most (λ i. pick (allocated (cells w) (suc i)) 1 0)) ℓ ≡ allocated (cells w) ℓ
+      each zero = rw (cells-nil w)
+      each (suc i) = go (decLt i most)
         where
-          go : Dec (i < most) → andb (ltb i most) (allocated (cells w) (suc i)) ≡ allocated (cells w) (suc i)
-          go (yes l) = rw (lt-ltb i most l)
-          go (no l) = rw (le-ltb i most (omega arith), cells-past w (suc i) h (omega arith))
+          go : Dec (i < most) → eqb (digit 2 (numOf 2 most (λ j. pick (allocated (cells w) (suc j)) 1 0)) i) 1 ≡ allocated (cells w) (suc i)
+          go (yes l) =
+              ap (λ (x : ℕ). eqb x 1) (digit-num 2 most (λ j. pick (allocated (cells w) (suc j)) 1 0) (λ j. bit-lt (allocated (cells w) (suc j))) i l)
+              ∙ bit-of (allocated (cells w) (suc i))
+          go (no l) =
+              in-past most (numOf 2 most (λ j. pick (allocated (cells w) (suc j)) 1 0)) (suc i) (numOf-lt 2 most (λ j. pick (allocated (cells w) (suc j)) 1 0) (λ j. bit-lt (allocated (cells w) (suc j)))) (omega arith)
+              ∙ rw (cells-past w (suc i) h (omega arith))
 
   tops-are : topsOf w ≡ topsFor setOf
   unfolding cells

@@ -3,7 +3,8 @@
 ghost use mathlib.Core.Path.{_≡_};
 ghost use Prim.Native.Nat.{suc, _≤_, _<_, _^_};
 ghost use lib.Bits.{bitAnd, bitXor};
-ghost use Rattle.logic.specs.Heap.{Heap, Named, Empty};
+ghost use lib.Dec.{leb};
+ghost use Rattle.logic.specs.Heap.{Heap, Empty};
 ghost use Rattle.logic.specs.Holds.{Points, Segment};
 ghost use Rattle.logic.specs.Tests.{pick};
 ghost use Rattle.logic.specs.Reflect.{Is};
@@ -38,12 +39,6 @@ pub fn spread(m: u64) -> u64
     ensures { λ r. ⌜ Spread m r ⌝ }
 {
     ((((m % 128) * 0x0002_0408_1020_4081) & 0x0001_0101_0101_0101) | ((m / 128) << 56)) * 255
-}
-
-fn flag(yes: bool) -> u64
-    ensures { λ r. ⌜ (r ≡ pick yes 1 0) × (r ≤ 1) ⌝ }
-{
-    if yes { 1 } else { 0 }
 }
 
 // The part that is allocated, without a loop. A byte that is not 0 carries into its top bit; each product then puts the top
@@ -211,31 +206,26 @@ pub fn is_list(p: u64, a: u64, b: u64, w: u64) -> bool
     if x == b { is_empty(g) } else { false }
 }
 
-fn is_named(v: u64, s: u64, l: u64) -> bool
-    requires { ⌜ v ≤ most ⌝ }
-    ensures { λ r. ⌜ Is r (Named v (cells s) l) ⌝ }
+// Bit d, where d is at most n.
+fn bit_up_to(d: u64, n: u64) -> u64
+    requires { ⌜ n ≤ most ⌝ }
+    ensures { λ r. ⌜ (r ≡ pick (leb d n) (2 ^ d) 0) × (r < 2 ^ suc n) ⌝ }
 {
-    let mut x: u64 = 0;
-    while x <= v {
-        if cell(s, x) == l {
-            return true;
-        }
-        x += 1;
-    }
-    false
+    if d <= n { bit(d) } else { 0 }
 }
 
-// The locations up to n that are not named.
+// The locations up to n that are not named. Location l is noted in bit l; the halving drops nil, which is in no set.
 pub fn unnamed(v: u64, n: u64, s: u64) -> u64
     requires { ⌜ (v ≤ most) × (n ≤ most) ⌝ }
     ensures { λ r. ⌜ Unnamed v n (cells s) r ⌝ }
 {
-    let mut u: u64 = 0;
-    let mut l = n;
-    while 0 < l {
-        let free = !is_named(v, s, l);
-        l -= 1;
-        u = 2 * u + flag(free);
+    let mut x = s;
+    let mut named: u64 = 0;
+    let mut i = v;
+    while 0 < i {
+        named = named | bit_up_to(x % 256, n);
+        x = x / 256;
+        i -= 1;
     }
-    u
+    ((bit(n + 1) - 1) ^ named) / 2
 }

@@ -8,6 +8,8 @@ use std::time::Instant;
 
 use cases::made::book;
 
+mod stack;
+
 const BOUNDS: [u8; 3] = [6, 6, 6];
 
 /// The sides take turns at so many models, so that a busy machine slows both alike..
@@ -46,6 +48,10 @@ const FORMULAS: [(&str, &[[u8; 3]]); 4] = [
     ),
 ];
 
+/// The deepest nestings that a book has room for: the nesting is on the a side, which no call can end with. Every
+/// judgement holds at the first part or the first added heap, so that each level is entered once.
+const NESTED: [(&str, u8); 3] = [("¬", 8), ("*", 9), ("−⊛", 10)];
+
 fn main() {
     println!("bounds 6 6 6, every heap of a stack, models judged a second");
     println!(
@@ -61,6 +67,36 @@ fn main() {
             println!("{name:<34} {stack:<12} {proved:>12.0} {second:>12.0} {ratio:>6.2}");
         }
     }
+    depths();
+}
+
+/// Prints how much stack the proved judge takes at its deepest.
+fn depths() {
+    println!("deepest nesting of an operator, bytes of stack (at most 65536 allowed)");
+    for (name, operator) in NESTED {
+        let book = nested(operator);
+        let model = [0, 0, 0, 0, 0, 0, 255, 255, 255, 255, 255, 255];
+        let mut number = 2;
+        let depth = stack::depth(&mut || number = hollyspool::judge(&book, &model).number);
+        assert!(number < 2, "{name}: a book that is refused goes nowhere");
+        assert!(depth <= 65536, "{name} takes {depth} bytes");
+        println!("{name:<34} {depth:>12}");
+    }
+}
+
+/// A book of as many nodes as fit, one operator nested in itself over nil = nil.
+fn nested(operator: u8) -> Vec<u8> {
+    let mut nodes = vec![[1, 0, 0]];
+    while nodes.len() + 2 <= 64 {
+        let below = nodes.len() as u8 - 1;
+        if operator == 8 {
+            nodes.push([8, below, 0]);
+        } else {
+            nodes.push([1, 0, 0]);
+            nodes.push([operator, below, below + 1]);
+        }
+    }
+    book(BOUNDS, &nodes)
 }
 
 /// Models judged a second by the proved and by the second judge.

@@ -1,48 +1,45 @@
 -- `cells::unnamed` meets its contract. Assumes nothing.
-use mathlib.Core.Path.{_≡_, sym, _∙_, ap}
-use Prim.Native.Nat.{_≤_}
+use Prim.Native.Nat.{_+_, _≤_}
+use native.Mathlib.Nat.{one-le-pow}
 use native.Mathlib.Omega.{arith}
 use borrow.Author.Needs.{needs}
-use Rattle.cells.specs.Cells.{cells}
-use Rattle.cells.specs.Sets.{built-none}
-use Rattle.cells.specs.Packing.{cells-nil}
-use Rattle.cells.specs.Loops.{unnamedFrom}
-use Rattle.cells.specs.Unnamed.{unnamed-lt, unnamed-next, unnamed-law}
+use Rattle.cells.specs.Loops.{Naming}
+use Rattle.cells.specs.Unnamed.{naming-first, naming-next, naming-last}
 use Rattle.cells.proofs.unnamed.Statement.{statement}
 use Rattle.cells.proofs.unnamed.Tie as tie
 
 abbrev Inv-loop : tie.InvT-loop
-Inv-loop v n s u₀ l₀ u l = (l ≤ n) × (u ≡ unnamedFrom v n (cells s) l)
+Inv-loop v n s x₀ named₀ i₀ x named i = (i ≤ v) × Naming v n s x i named
 
 abbrev μ-loop : tie.MeasureT-loop
-μ-loop v n s u₀ l₀ u l = l
+μ-loop v n s x₀ named₀ i₀ x named i = i
 
 loop-holds : tie.Need-loop-holds Inv-loop μ-loop
-loop-holds c = (omega arith, sym (built-none _ _))
+loop-holds c = (omega arith, naming-first _ _ _)
 
-is-named-requires : tie.Need-is-named-requires Inv-loop μ-loop
-is-named-requires c κs = search needs
+bit-up-to-requires : tie.Need-bit-up-to-requires Inv-loop μ-loop
+bit-up-to-requires c κs = search needs
 
-sub-l : tie.Need-sub-l Inv-loop μ-loop
-sub-l c = search needs
-
-mul-u : tie.Need-mul-u Inv-loop μ-loop
-mul-u c = omega (arith, unnamed-lt (c .before .before .before .args .v) (c .before .before .before .args .n) (cells (c .before .before .before .args .s)) (c .before .before .loop .l) (c .before .before .before .pre .1))
-
-flag-requires : tie.Need-flag-requires Inv-loop μ-loop
-flag-requires c κs = search needs
-
-add-u : tie.Need-add-u Inv-loop μ-loop
-add-u c = omega (arith, unnamed-lt (c .before .before .before .before .args .v) (c .before .before .before .before .args .n) (cells (c .before .before .before .before .args .s)) (c .before .before .before .loop .l) (c .before .before .before .before .pre .1))
+sub-i : tie.Need-sub-i Inv-loop μ-loop
+sub-i c = search needs
 
 loop-less : tie.Need-loop-less Inv-loop μ-loop
 loop-less c = search needs
 
 loop-again : tie.Need-loop-again Inv-loop μ-loop
-loop-again c = (omega arith, unnamed-next _ _ _ _ _ _ _ (c .before .before .loop-test .taken) (c .before .before .before .loop .inv .0) (c .before .before .before .loop .inv .1) (c .before .is-named .ensures) (c .flag .ensures .0))
+loop-again c = (omega arith, naming-next _ _ _ _ _ _ _ (c .before .loop-test .taken) (c .bit-up-to .ensures .0) (c .bit-up-to .ensures .1) (c .before .before .loop .inv .1))
+
+add-bit : tie.Need-add-bit Inv-loop μ-loop
+add-bit c = search needs
+
+bit-requires : tie.Need-bit-requires Inv-loop μ-loop
+bit-requires c κs = search needs
+
+sub-result : tie.Need-sub-result Inv-loop μ-loop
+sub-result c = omega (arith, one-le-pow (c .before .before .before .args .n + 1) 2 (omega arith))
 
 returns : tie.Need-returns Inv-loop μ-loop
-returns c = unnamed-law _ _ _ _ (cells-nil _) (c .before .before .pre .1) (c .before .loop .inv .1 ∙ ap (unnamedFrom (c .before .before .args .v) (c .before .before .args .n) (cells (c .before .before .args .s))) (omega arith))
+returns c = naming-last _ _ _ _ _ _ _ (c .before .before .before .pre .1) (omega arith) (c .bit .ensures) (c .before .before .loop .inv .1)
 
 pub unnamed-spec : {M : Type 1} → statement M
 unnamed-spec =
@@ -51,11 +48,11 @@ unnamed-spec =
     Inv-loop
     μ-loop
     loop-holds
-    is-named-requires
-    sub-l
-    mul-u
-    flag-requires
-    add-u
+    bit-up-to-requires
+    sub-i
     loop-less
     loop-again
+    add-bit
+    bit-requires
+    sub-result
     returns)
