@@ -141,11 +141,13 @@ fn uses_by(f: &[u8], j: usize, k: usize) -> usize
     requires { ⌜ (3 * j + 2 < length (now f)) × OperatorOk (now f) j ⌝ }
     ensures { λ r. ⌜ (r ≡ usesOn (now (f .entry)) j k 0 + usesOn (now (f .entry)) j k 1) × (r ≤ 2) ⌝ }
 {
+    let a = once(f[3 * j + 1], k);
+    let b = once(f[3 * j + 2], k);
     let op = f[3 * j];
     match op {
         1..=4 => 0,
-        8 => once(f[3 * j + 1], k),
-        _ => once(f[3 * j + 1], k) + once(f[3 * j + 2], k),
+        8 => a,
+        _ => a + b,
     }
 }
 

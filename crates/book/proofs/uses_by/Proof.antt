@@ -1,20 +1,13 @@
 -- `book::uses_by` meets its contract. Assumes nothing.
 use borrow.Author.Needs.{needs}
-use mathlib.Core.Path.{_≡_, _∙_, sym, ap, ap₂}
+use mathlib.Core.Path.{_≡_}
 use mathlib.Core.Logic.{⊎-elim}
-use Prim.Native.Nat.{ℕ, _+_, _≤_}
+use Prim.Native.Nat.{_≤_}
 use native.Mathlib.Omega.{arith}
-use lib.ListN.{getD}
 use Rattle.logic.specs.Table.{opOf}
 use Rattle.logic.specs.TableLaws.{child-on, no-child-on, atom-uses, a-is-child, b-is-child, b-of-8}
 use Rattle.book.proofs.uses_by.Statement.{statement}
 use Rattle.book.proofs.uses_by.Tie as tie
-
-mul-op : tie.Need-mul-op
-mul-op c = search needs
-
-shared-slice-read-op : tie.Need-shared-slice-read-op
-shared-slice-read-op c = search needs
 
 mul-once : tie.Need-mul-once
 mul-once c = search needs
@@ -40,48 +33,43 @@ shared-slice-read-once-2 c = search needs
 once-requires-2 : tie.Need-once-requires-2
 once-requires-2 c κs = search needs
 
-mul-once-3 : tie.Need-mul-once-3
-mul-once-3 c = search needs
+mul-op : tie.Need-mul-op
+mul-op c = search needs
 
-add-once-3 : tie.Need-add-once-3
-add-once-3 c = search needs
-
-shared-slice-read-once-3 : tie.Need-shared-slice-read-once-3
-shared-slice-read-once-3 c = search needs
-
-once-requires-3 : tie.Need-once-requires-3
-once-requires-3 c κs = search needs
+shared-slice-read-op : tie.Need-shared-slice-read-op
+shared-slice-read-op c = search needs
 
 add-result : tie.Need-add-result
-add-result c = search needs
+add-result c = omega (arith, c .before .before .before .once2 .ensures .1, c .before .before .before .before .before .once .ensures .1)
 
 returns : tie.Need-returns
 returns c =
-    let a = c .before .before .before .before .before .args in
-    let e : opOf (a .f .now) (a .j) ≡ 8 = c .before .before .match .keys1 in
-    let first = child-on (a .f .now) (a .j) (a .k) 0 (a-is-child (opOf (a .f .now) (a .j)) (omega arith)) in
-    let second = no-child-on (a .f .now) (a .j) (a .k) 1 (λ z. omega (arith, b-of-8 (opOf (a .f .now) (a .j)) e)) in
-    (omega (arith, first, second, c .once .ensures .0), omega (arith, c .once .ensures .1))
+    let a = c .before .before .before .before .before .before .before .args in
+    let o = opOf (a .f .now) (a .j) in
+    let e : o ≡ 8 = c .match .keys1 in
+    let first = child-on (a .f .now) (a .j) (a .k) 0 (a-is-child o (omega arith)) in
+    let second = no-child-on (a .f .now) (a .j) (a .k) 1 (λ z. omega (arith, b-of-8 o e)) in
+    (omega (arith, first, second, c .before .before .before .before .once .ensures .0), omega (arith, c .before .before .before .before .once .ensures .1))
 
 returns-2 : tie.Need-returns-2
 returns-2 c =
-    let a = c .before .before .before .before .before .args in
-    (omega (arith, atom-uses (a .f .now) (a .j) (a .k) 0 (omega arith), atom-uses (a .f .now) (a .j) (a .k) 1 (omega arith)), search needs)
+    let a = c .before .before .before .before .before .before .before .before .before .args in
+    let o = opOf (a .f .now) (a .j) in
+    (omega (arith, atom-uses (a .f .now) (a .j) (a .k) 0 (omega arith), atom-uses (a .f .now) (a .j) (a .k) 1 (omega arith)), omega arith)
 
 returns-3 : tie.Need-returns-3
 returns-3 c =
     let a = c .before .before .before .before .before .before .before .before .args in
-    let five : 5 ≤ opOf (a .f .now) (a .j) = ⊎-elim (λ w. omega (arith, w, c .before .before .before .before .before .before .before .before .pre .1)) (λ w. omega (arith, w)) (c .before .before .before .before .if1 .came) in
-    let first = child-on (a .f .now) (a .j) (a .k) 0 (a-is-child (opOf (a .f .now) (a .j)) five) in
-    let second = child-on (a .f .now) (a .j) (a .k) 1 (b-is-child (opOf (a .f .now) (a .j)) five (c .before .before .before .before .before .match .rest .1)) in
-    (omega (arith, first, second, c .before .before .once2 .ensures .0, c .once3 .ensures .0), omega (arith, c .before .before .once2 .ensures .1, c .once3 .ensures .1))
+    let o = opOf (a .f .now) (a .j) in
+    let five : 5 ≤ o = ⊎-elim (λ w. omega (arith, w, c .before .before .before .before .before .before .before .before .pre .1)) (λ w. omega (arith, w)) (c .if1 .came) in
+    let first = child-on (a .f .now) (a .j) (a .k) 0 (a-is-child o five) in
+    let second = child-on (a .f .now) (a .j) (a .k) 1 (b-is-child o five (c .before .match .rest .1)) in
+    (omega (arith, first, second, c .before .before .before .before .before .once .ensures .0, c .before .before .before .once2 .ensures .0), omega (arith, c .before .before .before .before .before .once .ensures .1, c .before .before .before .once2 .ensures .1))
 
 pub uses-by-spec : {M : Type 1} → statement M
 uses-by-spec =
     tie.close
     (tie.spec
-    mul-op
-    shared-slice-read-op
     mul-once
     add-once
     shared-slice-read-once
@@ -90,10 +78,8 @@ uses-by-spec =
     add-once-2
     shared-slice-read-once-2
     once-requires-2
-    mul-once-3
-    add-once-3
-    shared-slice-read-once-3
-    once-requires-3
+    mul-op
+    shared-slice-read-op
     add-result
     returns
     returns-2
