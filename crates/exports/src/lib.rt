@@ -3,6 +3,7 @@ use contents::Stretch;
 use logic::Answer;
 ghost use Rattle.logic.specs.Book.{Reads, Placed};
 ghost use Rattle.logic.specs.Model.{Judges};
+ghost use Rattle.logic.specs.Search.{Searches};
 
 #[no_mangle]
 pub extern "C" fn hollyspool_read(book: &[u8]) -> Answer
@@ -23,4 +24,11 @@ pub extern "C" fn hollyspool_judge(book: &[u8], model: &[u8]) -> Answer
     ensures { λ r. ⌜ Judges (now (book .entry)) (now (model .entry)) r ⌝ }
 {
     model::judge(book, model)
+}
+
+#[no_mangle]
+pub extern "C" fn hollyspool_search(book: &[u8], budget: u64, out: &mut [u8]) -> Answer
+    ensures { λ r. ⌜ Searches (now (book .entry)) budget (now (out .entry)) r (now (out .exit)) ⌝ }
+{
+    search::search(book, budget, out)
 }

@@ -6,9 +6,10 @@ use mathlib.Core.Logic.{_⊎_}
 use Prim.Native.Nat.{ℕ, _+_, _-_, _*_, _/_, _%_, _<_, _≤_}
 use lib.ListN.{length, getD, take, drop}
 use Rattle.logic.specs.declared.Answer.{Answer}
+use Rattle.logic.specs.Formula.{Form}
 use Rattle.logic.specs.Numbers.{answer, yes-number, book-length, contents, bounds, formula-length, operator, operand, tree-shape}
 use Rattle.logic.specs.Checks.{Checks, done, check, _then_, upto, Passes, Answers}
-use Rattle.logic.specs.Table.{OperatorOk, OperandsOk, Sound, Tree, uses}
+use Rattle.logic.specs.Table.{OperatorOk, OperandsOk, Sound, Tree, uses, tree}
 
 -- the most that v, n and p may be: "each 0 to 6"
 abbrev pub most : ℕ
@@ -77,6 +78,10 @@ formulaOf s = stretch s 1
 -- "The last node is the root."
 abbrev pub root : List ℕ → ℕ
 root f = nodes f - 1
+
+-- the formula of the book s
+abbrev pub bookFormula : List ℕ → Form
+bookFormula s = tree (formulaOf s) (root (formulaOf s))
 
 -- "Order: 10 to 13; then nodes upwards, 14 before 15 at each; 16", "lowest non-root node not used exactly once"
 abbrev pub contentsChecks : List ℕ → Checks

@@ -9,8 +9,8 @@ use Rattle.logic.specs.Formula.{Form}
 use Rattle.logic.specs.Heap.{Map}
 use Rattle.logic.specs.Tests.{andb, orb, all}
 use Rattle.logic.specs.Truth.{truth}
-use Rattle.logic.specs.Table.{opOf, operandOf, kindOf, uses, tree}
-use Rattle.logic.specs.Book.{most, kind, offset, size, stretch, varsOf, locsOf, pathOf, formulaOf, nodes, root}
+use Rattle.logic.specs.Table.{opOf, operandOf, kindOf, uses}
+use Rattle.logic.specs.Book.{most, kind, offset, size, stretch, varsOf, locsOf, pathOf, formulaOf, nodes, root, bookFormula}
 use Rattle.logic.specs.Model.{stackIn, heapIn}
 
 unfoldable pub laidOut : List ℕ → Bool
@@ -51,4 +51,4 @@ fits v n p F s h = truth v n p F s h
 
 unfoldable pub fitsBook : List ℕ → List ℕ → Bool
 fitsBook s m =
-    fits (varsOf s) (locsOf s) (pathOf s) (tree (formulaOf s) (root (formulaOf s))) (stackIn (varsOf s) m) (heapIn (varsOf s) (locsOf s) m)
+    fits (varsOf s) (locsOf s) (pathOf s) (bookFormula s) (stackIn (varsOf s) m) (heapIn (varsOf s) (locsOf s) m)

@@ -20,4 +20,13 @@ pub mod ModelLaws
 pub mod TableLaws
 pub mod Entries
 pub mod BookLaws
+pub mod Candidates
+pub mod NumberLaws
+pub mod CandidateLaws
+pub mod Search
+pub mod Trials
+pub mod SearchLaws
+pub mod RefusalLaws
+pub mod JudgeExamples
+pub mod SearchExamples
 pub mod Examples

@@ -13,8 +13,7 @@ use Rattle.logic.specs.Heap.{Map}
 use Rattle.logic.specs.Formula.{Form}
 use Rattle.logic.specs.Holds.{Holds}
 use Rattle.logic.specs.Tests.{pick}
-use Rattle.logic.specs.Table.{tree}
-use Rattle.logic.specs.Book.{bookChecks, varsOf, locsOf, pathOf, formulaOf, root}
+use Rattle.logic.specs.Book.{bookChecks, varsOf, locsOf, pathOf, bookFormula}
 
 -- "A model is v bytes (each variable's location, 0 to n)"
 unfoldable pub stackIn : ℕ → List ℕ → Map
@@ -51,7 +50,7 @@ Fits v n p F s h = Holds v n p F s h
 -- the model m fits the book s
 abbrev pub FitsBook : List ℕ → List ℕ → Type 0
 FitsBook s m =
-    Fits (varsOf s) (locsOf s) (pathOf s) (tree (formulaOf s) (root (formulaOf s))) (stackIn (varsOf s) m) (heapIn (varsOf s) (locsOf s) m)
+    Fits (varsOf s) (locsOf s) (pathOf s) (bookFormula s) (stackIn (varsOf s) m) (heapIn (varsOf s) (locsOf s) m)
 
 -- "Order: 10 to 13; then nodes upwards, ..; 16; then 17, 18 (model)"
 abbrev pub judgeChecks : List ℕ → List ℕ → Checks

@@ -50,6 +50,10 @@ model-length = 17
 abbrev pub model-value : ℕ
 model-value = 18
 
+-- "output too short: under v+n bytes for a search, whatever it would find"
+abbrev pub output-length : ℕ
+output-length = 20
+
 -- "Each answer is a number, a place and a tried count (0 outside search)."
 abbrev pub answer : ℕ → ℕ → Answer
 answer m q = record { number = m; place = q; tried = 0 }

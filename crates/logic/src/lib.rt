@@ -12,6 +12,8 @@ pub const YES: u64 = 0;
 
 pub const NO: u64 = 1;
 
+pub const SPENT: u64 = 2;
+
 pub const BOOK_LENGTH: u64 = 10;
 
 pub const CONTENTS: u64 = 11;
@@ -29,3 +31,5 @@ pub const TREE_SHAPE: u64 = 16;
 pub const MODEL_LENGTH: u64 = 17;
 
 pub const MODEL_VALUE: u64 = 18;
+
+pub const OUTPUT_LENGTH: u64 = 20;

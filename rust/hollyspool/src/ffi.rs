@@ -26,4 +26,11 @@ extern "C" {
         model: *const u8,
         model_len: usize,
     ) -> Answer;
+    pub fn hollyspool_search(
+        book: *const u8,
+        book_len: usize,
+        budget: u64,
+        out: *mut u8,
+        out_len: usize,
+    ) -> Answer;
 }

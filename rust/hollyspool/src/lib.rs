@@ -24,3 +24,11 @@ pub fn judge(book: &[u8], model: &[u8]) -> Answer {
     // SAFETY: as for `read`, for each of the two slices.
     unsafe { ffi::hollyspool_judge(book.as_ptr(), book.len(), model.as_ptr(), model.len()) }
 }
+
+/// Looks for the lowest candidate that fits, and writes it if its number is below the budget. The
+/// output needs v + n bytes; the rest of it stays as it was.
+pub fn search(book: &[u8], budget: u64, out: &mut [u8]) -> Answer {
+    let (to, room) = (out.as_mut_ptr(), out.len());
+    // SAFETY: as for `read`; the output is one live slice that nothing else refers to.
+    unsafe { ffi::hollyspool_search(book.as_ptr(), book.len(), budget, to, room) }
+}

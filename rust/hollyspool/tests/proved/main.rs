@@ -5,3 +5,4 @@ mod damaged;
 mod judge;
 mod lines;
 mod made;
+mod search;

@@ -1,0 +1,4 @@
+pub mod Counter
+pub mod StepLaws
+pub mod CounterLaws
+pub mod Written

@@ -1,0 +1,5 @@
+pub mod Negations
+pub mod Wider
+pub mod LargerBudget
+pub mod MoreLocations
+pub mod FoundFits

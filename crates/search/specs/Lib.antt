@@ -1,0 +1,3 @@
+pub mod Hunt
+pub mod HuntLaws
+pub mod BookLaws

@@ -1,0 +1,119 @@
+//! The search: the case lines, all small books around the ends of their budgets, random books.
+
+use cases::line::{about, Call, Outcome};
+use cases::made::{book, small, tame, tree};
+use cases::random::Random;
+use second::book::Bounds;
+use second::candidate::count;
+use second::search::search;
+use second::shape::{text, BUDGET};
+
+use crate::compare::{proved, MOST};
+
+const OPERATORS: [u8; 16] = [1, 2, 2, 3, 3, 3, 4, 5, 5, 6, 7, 8, 9, 9, 9, 10];
+
+/// The node visits that one random search may take.
+const VISITS: u64 = 2_000_000;
+
+#[test]
+fn search_lines() {
+    for case in about(Call::Search) {
+        let mut out = case.buffer();
+        let answer = proved(hollyspool::search(&case.book, case.number, &mut out));
+        let outcome = Outcome::of(answer.number, answer.place, answer.tried, out);
+        assert_eq!(outcome, case.outcome, "{}", case.source);
+    }
+}
+
+/// What the program prints follows from what its search answers.
+#[test]
+fn shape_lines() {
+    for case in about(Call::Shape) {
+        let mut model = [0; 2 * MOST as usize];
+        let answer = proved(hollyspool::search(&case.book, BUDGET, &mut model));
+        let printed = text(&case.book, answer, &model);
+        assert_eq!(printed.as_bytes(), case.outcome.out, "{}", case.source);
+    }
+}
+
+#[test]
+fn every_small_book() {
+    for number in 0..27 {
+        let bounds = [number / 9, number / 3 % 3, number % 3];
+        for nodes in small(bounds[0]) {
+            let book = book(bounds, &nodes);
+            let room = usize::from(bounds[0] + bounds[1]);
+            let first = search(&book, u64::MAX, &mut vec![0; room]).tried;
+            for budget in budgets(first, total(bounds)) {
+                same_search(&book, budget, room);
+            }
+        }
+    }
+}
+
+#[test]
+fn random_books() {
+    let mut random = Random::new(0x5EA);
+    for round in 0..3_000 {
+        let bounds = [(); 3].map(|()| random.up_to(MOST));
+        let mut nodes = tree(&mut random, bounds[0], 1 + round % 64, &OPERATORS);
+        let most = random.one_of(&[100, 10_000, 600_000]);
+        let visits = tame(&mut nodes, bounds[1], most);
+        let limit = (VISITS / visits).clamp(1, 200_000);
+        let room = usize::from(bounds[0] + bounds[1]) + random.below(3);
+        same_search(&book(bounds, &nodes), limit, room);
+        same_search(
+            &book(bounds, &nodes),
+            random.below(limit as usize) as u64,
+            room,
+        );
+    }
+}
+
+/// Whatever would be found, under v + n bytes is too short.
+#[test]
+fn short_outputs() {
+    let mut random = Random::new(0x5807);
+    for _ in 0..20_000 {
+        let bounds = [(); 3].map(|()| random.up_to(MOST));
+        let budget = random.one_of(&[0, 1, 2, 100]);
+        let room = random.below(2 * usize::from(MOST) + 4);
+        let node = [
+            1 + random.up_to(3),
+            random.up_to(bounds[0]),
+            random.up_to(bounds[0]),
+        ];
+        same_search(&book(bounds, &[node]), budget, room);
+    }
+}
+
+/// Compares two searches and every byte of their outputs.
+fn same_search(book: &[u8], budget: u64, room: usize) {
+    let (mut out, mut expected) = (vec![0xA5; room], vec![0xA5; room]);
+    let answer = proved(hollyspool::search(book, budget, &mut out));
+    let second = search(book, budget, &mut expected);
+    assert_eq!((answer, out), (second, expected), "{budget} for {book:?}");
+}
+
+/// Budgets around the first fit and around T, each once.
+fn budgets(first: u64, total: u64) -> Vec<u64> {
+    let mut budgets = vec![
+        0,
+        1,
+        first - 1,
+        first,
+        first + 1,
+        total - 1,
+        total,
+        total + 1,
+        u64::MAX,
+    ];
+    budgets.sort_unstable();
+    budgets.dedup();
+    budgets
+}
+
+fn total(bounds: [u8; 3]) -> u64 {
+    let [v, n, p] = bounds.map(usize::from);
+    count(Bounds { v, n, p })
+}
