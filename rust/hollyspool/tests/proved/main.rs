@@ -5,4 +5,5 @@ mod damaged;
 mod judge;
 mod lines;
 mod made;
+mod program;
 mod search;

@@ -6,7 +6,6 @@ use cases::random::Random;
 use second::book::Bounds;
 use second::candidate::count;
 use second::search::search;
-use second::shape::{text, BUDGET};
 
 use crate::compare::{proved, MOST};
 
@@ -22,17 +21,6 @@ fn search_lines() {
         let answer = proved(hollyspool::search(&case.book, case.number, &mut out));
         let outcome = Outcome::of(answer.number, answer.place, answer.tried, out);
         assert_eq!(outcome, case.outcome, "{}", case.source);
-    }
-}
-
-/// What the program prints follows from what its search answers.
-#[test]
-fn shape_lines() {
-    for case in about(Call::Shape) {
-        let mut model = [0; 2 * MOST as usize];
-        let answer = proved(hollyspool::search(&case.book, BUDGET, &mut model));
-        let printed = text(&case.book, answer, &model);
-        assert_eq!(printed.as_bytes(), case.outcome.out, "{}", case.source);
     }
 }
 
