@@ -1,4 +1,5 @@
-//! Models judged a second, by the proved judge and by the second one, in one run.
+//! Models judged and candidates searched a second, by the proved bench and by the second one, in one run; how a search's
+//! time grows with its budget; and how much stack the proved judge takes.
 //!
 //! Both are given the same bytes, book and model anew for each call; there are no buffers to clear.
 //! No model fits any of the formulas, so each is judged to the end.
@@ -52,7 +53,16 @@ const FORMULAS: [(&str, &[[u8; 3]]); 4] = [
 /// judgement holds at the first part or the first added heap, so that each level is entered once.
 const NESTED: [(&str, u8); 3] = [("¬", 8), ("*", 9), ("−⊛", 10)];
 
+/// The budgets of the searches: that of the formula with a septraction is the last.
+const BUDGETS: [u64; 4] = [3_000_000, 3_000_000, 3_000_000, 20_000];
+
 fn main() {
+    judged();
+    searched();
+    depths();
+}
+
+fn judged() {
     println!("bounds 6 6 6, every heap of a stack, models judged a second");
     println!(
         "{:<34} {:<12} {:>12} {:>12} {:>6}",
@@ -67,7 +77,44 @@ fn main() {
             println!("{name:<34} {stack:<12} {proved:>12.0} {second:>12.0} {ratio:>6.2}");
         }
     }
-    depths();
+}
+
+fn searched() {
+    println!("bounds 6 6 6, candidates searched a second, and the proved search's seconds at 1, 2, 4 and 8 budgets");
+    println!(
+        "{:<34} {:<12} {:>12} {:>12} {:>6}",
+        "formula", "budget", "proved", "second", "ratio"
+    );
+    for ((name, nodes), budget) in FORMULAS.into_iter().zip(BUDGETS) {
+        let book = book(BOUNDS, nodes);
+        let mut fastest = [f64::INFINITY; 2];
+        for _ in 0..RUNS {
+            fastest[0] = search_time(&book, budget, |b, k, o| hollyspool::search(b, k, o).number)
+                .min(fastest[0]);
+            fastest[1] = search_time(&book, budget, |b, k, o| {
+                second::search::search(b, k, o).number
+            })
+            .min(fastest[1]);
+        }
+        let [proved, second] = fastest.map(|taken| budget as f64 / taken);
+        let ratio = proved / second;
+        print!("{name:<34} {budget:<12} {proved:>12.0} {second:>12.0} {ratio:>6.2} ");
+        for times in [1, 2, 4, 8] {
+            let taken = search_time(&book, times * budget, |b, k, o| {
+                hollyspool::search(b, k, o).number
+            });
+            print!(" {taken:.3}");
+        }
+        println!();
+    }
+}
+
+/// The time of a search that spends its budget.
+fn search_time(book: &[u8], budget: u64, search: impl Fn(&[u8], u64, &mut [u8]) -> u64) -> f64 {
+    let mut out = [0; 12];
+    let start = Instant::now();
+    assert_eq!(search(black_box(book), budget, &mut out), 2);
+    start.elapsed().as_secs_f64()
 }
 
 /// Prints how much stack the proved judge takes at its deepest.
