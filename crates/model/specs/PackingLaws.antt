@@ -2,19 +2,44 @@
 use mathlib.Core.Path.{_≡_, refl, sym, _∙_, ap, ap₂, fun-ext}
 use mathlib.Core.Bool.{Bool, true, false}
 use mathlib.Core.List.{List}
-use Prim.Native.Nat.{ℕ, zero, suc, _+_, _-_, _*_, _^_, _<_, _≤_}
+use Prim.Native.Nat.{ℕ, zero, suc, _+_, _-_, _*_, _^_, _<_, _≤_, _%_}
 use native.Mathlib.Nat.{zero-add, pow-le-pow-right, lt-of-lt-of-le}
-use native.Mathlib.Decide.{decLt}
+use native.Mathlib.Decide.{decLt, ℕ-discrete}
 use native.Mathlib.Omega.{arith}
-use lib.Dec.{eqb, ltb}
+use lib.Dec.{eqb, leb, ltb}
 use lib.ListN.{getD}
-use borrow.Author.Tests.{lt-ltb, le-ltb, eqb-false}
+use borrow.Author.Tests.{lt-ltb, le-ltb, eqb-false, eq-eqb, ne-eqb}
 use Rattle.logic.specs.Digits.{numOf, numOf-lt, digit-num}
 use Rattle.logic.specs.Tests.{pick, digit}
-use Rattle.logic.specs.Model.{stackIn, heapIn}
+use Rattle.logic.specs.Model.{stackIn, heapIn, digitOf, InRange}
+use Rattle.logic.specs.Reflect.{Is, is-iff, is-le}
+use mathlib.Core.Logic.{inl, inr, ⊎-elim}
 use Rattle.cells.specs.Cells.{most, word, cells}
 use Rattle.cells.specs.Bits.{digit-past}
 use Rattle.model.specs.Packing.{itemOf, items, packedFrom}
+
+-- a cell's digit, without a test
+pub digit-is : (x : ℕ) → x < 256 → (x + 1) % 256 ≡ digitOf x
+digit-is x l = go (ℕ-discrete x 255)
+  where
+    go : Dec (x ≡ 255) → (x + 1) % 256 ≡ digitOf x
+    go (yes e) = rw (eq-eqb x 255 e) (omega arith)
+    go (no e) = rw (ne-eqb x 255 e) (omega arith)
+
+-- a cell's byte is in range if its digit is
+pub is-cell-byte : (v n i x r : ℕ) → v ≤ i → n ≤ most → x < 256 → r ≡ x → Is (leb ((r + 1) % 256) (n + 1)) (InRange v n i x)
+is-cell-byte v n i x r a l h e =
+    is-iff (is-le ((r + 1) % 256) (n + 1)) (λ q. go q (ℕ-discrete x 255))
+    (⊎-elim (λ q. omega (arith, q)) (λ q. omega (arith, q .1)))
+  where
+    go : (r + 1) % 256 ≤ n + 1 → Dec (x ≡ 255) → InRange v n i x
+    go q (yes z) = inr (a, z)
+    go q (no z) = inl (omega arith)
+
+-- a variable's byte is in range if it is a location
+pub is-location : (v n i x r : ℕ) → i < v → r ≡ x → Is (leb r n) (InRange v n i x)
+is-location v n i x r a e =
+    is-iff (is-le r n) (λ q. inl (omega arith)) (⊎-elim (λ q. omega (arith, q)) (λ q. absurd (omega (arith, q .0))))
 
 item-lt : (cell : Bool) (x : ℕ) → x < 256 → itemOf cell x < 256
 item-lt true x l = go (eqb x 255) refl

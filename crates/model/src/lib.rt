@@ -17,16 +17,16 @@ ghost use Rattle.logic.specs.Model.{InRange, modelChecks, stackIn, heapIn, Fits
 ghost use Rattle.cells.specs.Cells.{most};
 ghost use Rattle.model.specs.Packing.{itemOf, packedFrom, Judged};
 
+// A cell's byte is in range if its digit is.
 fn is_in_range(v: usize, n: usize, i: usize, x: u8) -> bool
+    requires { ⌜ n ≤ most ⌝ }
     ensures { λ r. ⌜ Is r (InRange v n i x) ⌝ }
 {
-    if wide(x) <= n {
-        return true;
-    }
     if i < v {
-        return false;
+        wide(x) <= n
+    } else {
+        (wide(x) + 1) % 256 <= n + 1
     }
-    x == 255
 }
 
 // Whether the bytes are a model over v variables and n locations: 17, 18.
@@ -51,11 +51,7 @@ pub fn in_range(v: usize, n: usize, model: &[u8]) -> Answer
 fn item(x: u8, cell: bool) -> u64
     ensures { λ r. ⌜ (r ≡ itemOf cell x) × (r < 256) ⌝ }
 {
-    if cell {
-        if x == 255 { 0 } else { x as u64 + 1 }
-    } else {
-        x as u64
-    }
+    if cell { (x as u64 + 1) % 256 } else { x as u64 }
 }
 
 // The stack or the heap that count bytes of a model are, packed.

@@ -7,7 +7,7 @@ use native.Mathlib.Numerals.{add-one}
 use native.Mathlib.Omega.{arith}
 use borrow.Author.Tests.{not-true, not-false}
 use Rattle.logic.specs.declared.Answer.{Answer}
-use Rattle.logic.specs.Checks.{upto, Passes, Answers}
+use Rattle.logic.specs.Checks.{Checks, done, check, upto, Passes, Answers}
 use Rattle.logic.specs.CheckLaws.{Yes, passes-none, passes-more, upto-refused, answers-passed}
 use Rattle.logic.specs.Reflect.{fails}
 use Rattle.logic.specs.Model.{byteChecks}
@@ -40,7 +40,7 @@ shared-slice-read-is-in-range : tie.Need-shared-slice-read-is-in-range Inv-loop 
 shared-slice-read-is-in-range c = omega (arith, c .before .before .before .if1 .left)
 
 is-in-range-requires : tie.Need-is-in-range-requires Inv-loop μ-loop
-is-in-range-requires c κs = search needs
+is-in-range-requires c κs = c .before .before .before .before .before .pre .1
 
 answer-of-requires-2 : tie.Need-answer-of-requires-2 Inv-loop μ-loop
 answer-of-requires-2 c κs = search needs
