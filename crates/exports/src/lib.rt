@@ -4,6 +4,8 @@ use logic::Answer;
 ghost use Rattle.logic.specs.Book.{Reads, Placed};
 ghost use Rattle.logic.specs.Model.{Judges};
 ghost use Rattle.logic.specs.Search.{Searches};
+ghost use Rattle.rows.specs.Assigned.{Assigns};
+ghost use Rattle.rows.specs.Output.{Encodes};
 
 #[no_mangle]
 pub extern "C" fn hollyspool_read(book: &[u8]) -> Answer
@@ -31,4 +33,18 @@ pub extern "C" fn hollyspool_search(book: &[u8], budget: u64, out: &mut [u8]) ->
     ensures { λ r. ⌜ Searches (now (book .entry)) budget (now (out .entry)) r (now (out .exit)) ⌝ }
 {
     search::search(book, budget, out)
+}
+
+#[no_mangle]
+pub extern "C" fn hollyspool_encode(book: &[u8], out: &mut [u8]) -> Answer
+    ensures { λ r. ⌜ Encodes (now (book .entry)) (now (out .entry)) r (now (out .exit)) ⌝ }
+{
+    encoder::encode(book, out)
+}
+
+#[no_mangle]
+pub extern "C" fn hollyspool_assign(book: &[u8], assignment: &[u8]) -> Answer
+    ensures { λ r. ⌜ Assigns (now (book .entry)) (now (assignment .entry)) r ⌝ }
+{
+    assign::assign(book, assignment)
 }

@@ -76,6 +76,10 @@ stretch-is s e start len end es el ee =
     let n : end - start ≡ size s e = omega arith in
     ap₂ (λ (k i : ℕ). take k (drop i s)) n es
 
+pub body-given : (s : List ℕ) (e : ℕ) (r : List ℕ) → Body s e r → Given s e → r ≡ stretch s e
+unfolding Body
+body-given s e r q g = ⊎-elim (λ x. x .1) (λ x. absurd (x .0 g)) q
+
 -- a body is no longer than the book
 pub body-short : (s : List ℕ) (e : ℕ) (r : List ℕ) → Given s e → r ≡ stretch s e → length r ≤ 206
 body-short s e r g q = omega (arith, ap length q, stretch-length s e g, stretch-short s e g)

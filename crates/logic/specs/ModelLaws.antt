@@ -81,7 +81,7 @@ is-fits s m ok =
     truth-holds (varsOf s) (locsOf s) (pathOf s) (stackIn (varsOf s) m) (model-stack (varsOf s) (locsOf s) m ok .low)
     (tree (formulaOf s) (root (formulaOf s))) (heapIn (varsOf s) (locsOf s) m) (model-heap (varsOf s) (locsOf s) m ok)
 
-verdict-single : (P : Type 0) → Single (Verdict P)
+pub verdict-single : (P : Type 0) → Single (Verdict P)
 verdict-single P a b p q =
     ⊎-elim (λ x. ⊎-elim (λ y. x .1 ∙ sym (y .1)) (λ y. absurd (y .0 (x .0))) q)
     (λ x. ⊎-elim (λ y. absurd (x .0 (y .0))) (λ y. x .1 ∙ sym (y .1)) q) p

@@ -50,9 +50,20 @@ model-length = 17
 abbrev pub model-value : ℕ
 model-value = 18
 
--- "output too short: under v+n bytes for a search, whatever it would find"
+-- "formula not encodable"
+abbrev pub not-encodable : ℕ
+not-encodable = 19
+
+-- "output too short: under v+n bytes for a search, whatever it would find; under the whole book for the encoder"
 abbrev pub output-length : ℕ
 output-length = 20
+
+-- "assignment of wrong length; value out of range"
+abbrev pub assignment-length : ℕ
+assignment-length = 21
+
+abbrev pub assignment-value : ℕ
+assignment-value = 22
 
 -- "Each answer is a number, a place and a tried count (0 outside search)."
 abbrev pub answer : ℕ → ℕ → Answer

@@ -32,4 +32,10 @@ pub const MODEL_LENGTH: u64 = 17;
 
 pub const MODEL_VALUE: u64 = 18;
 
+pub const NOT_ENCODABLE: u64 = 19;
+
 pub const OUTPUT_LENGTH: u64 = 20;
+
+pub const ASSIGNMENT_LENGTH: u64 = 21;
+
+pub const ASSIGNMENT_VALUE: u64 = 22;

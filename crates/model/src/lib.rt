@@ -55,7 +55,7 @@ fn item(x: u8, cell: bool) -> u64
 }
 
 // The stack or the heap that count bytes of a model are, packed.
-fn packed(model: &[u8], from: usize, count: usize, cell: bool) -> u64
+pub fn packed(model: &[u8], from: usize, count: usize, cell: bool) -> u64
     requires { ⌜ (count ≤ most) × (from + count ≤ length (now model)) ⌝ }
     ensures { λ r. ⌜ r ≡ packedFrom cell (now (model .entry)) from count 0 ⌝ }
 {

@@ -33,4 +33,16 @@ extern "C" {
         out: *mut u8,
         out_len: usize,
     ) -> Answer;
+    pub fn hollyspool_encode(
+        book: *const u8,
+        book_len: usize,
+        out: *mut u8,
+        out_len: usize,
+    ) -> Answer;
+    pub fn hollyspool_assign(
+        book: *const u8,
+        book_len: usize,
+        assignment: *const u8,
+        assignment_len: usize,
+    ) -> Answer;
 }

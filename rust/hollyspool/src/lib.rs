@@ -32,3 +32,17 @@ pub fn search(book: &[u8], budget: u64, out: &mut [u8]) -> Answer {
     // SAFETY: as for `read`; the output is one live slice that nothing else refers to.
     unsafe { ffi::hollyspool_search(book.as_ptr(), book.len(), budget, to, room) }
 }
+
+/// Writes the encoding of the book's formula, as a book; the rest of the output stays as it was.
+pub fn encode(book: &[u8], out: &mut [u8]) -> Answer {
+    let (to, room) = (out.as_mut_ptr(), out.len());
+    // SAFETY: as for `search`.
+    unsafe { ffi::hollyspool_encode(book.as_ptr(), book.len(), to, room) }
+}
+
+/// Says whether the assignment satisfies the rows that the encoder gives for the book.
+pub fn assign(book: &[u8], assignment: &[u8]) -> Answer {
+    let (from, length) = (assignment.as_ptr(), assignment.len());
+    // SAFETY: as for `judge`.
+    unsafe { ffi::hollyspool_assign(book.as_ptr(), book.len(), from, length) }
+}

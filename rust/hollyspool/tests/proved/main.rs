@@ -1,7 +1,9 @@
 //! The proved calls, beside the case files and the second bench.
 
+mod assign;
 mod compare;
 mod damaged;
+mod encode;
 mod judge;
 mod lines;
 mod made;

@@ -1,0 +1,5 @@
+pub mod Written
+pub mod WrittenLaws
+pub mod EncodedLaws
+pub mod EncodableLaws
+pub mod EncodeLaws

@@ -1,0 +1,188 @@
+-- Laws of what is written: bytes behind bytes, and rows behind rows. Assumes nothing.
+use mathlib.Core.Path.{_≡_, refl, sym, ap, ap₂, _∙_}
+use mathlib.Core.List.{List, [], _∷_, _++_, append-assoc}
+use Prim.Native.Nat.{ℕ, zero, suc, _+_, _-_, _*_, _/_, _%_, _≤_}
+use native.Mathlib.Omega.{arith}
+use native.Mathlib.Numerals.{unary-clauses, add-one}
+use lib.ListN.{length, set, take, drop, length-append, length-take, length-drop}
+use lib.Seq.{sets-eq, take-at, drop-append-add, drop-drop, length-take-le}
+use Rattle.rows.specs.declared.Fields.{Fields}
+use Rattle.rows.specs.declared.Next.{Next}
+use Rattle.rows.specs.Row.{Row, plain, fieldsOf, tenBytes, bytesOf}
+use Rattle.rows.specs.Row.Row.{CHAIN, AND, OR, SPLIT, APART, SAME}
+use Rattle.rows.specs.Table.{moved, chains, ors, soFar, sepRows, septRows}
+use Rattle.rows.specs.TableLaws.{chains-long, ors-long}
+use Rattle.rows.specs.OutputLaws.{bytes-append, bytes-long}
+use Rattle.encoder.specs.Written.{put, Puts, Space}
+
+pub put-length : (at : ℕ) (bs o : List ℕ) → at + length bs ≤ length o → length (put at bs o) ≡ length o
+unfolding put
+put-length at bs o h = simp (length-append, length-take, length-drop) (omega arith)
+
+pub put-put : (at : ℕ) (xs ys o : List ℕ) → at + length xs ≤ length o → put (at + length xs) ys (put at xs o) ≡ put at (xs ++ ys) o
+unfolding put
+put-put at xs ys o h =
+    let n : length (take at o ++ xs) ≡ at + length xs = simp (length-append, length-take-le at o (omega arith)) in
+    let m : at + length xs + length ys ≡ length (take at o ++ xs) + length ys = omega arith in
+    let w : at + length xs + length ys ≡ at + length (xs ++ ys) = simp length-append (omega arith) in
+    rw (take-at (take at o ++ xs) (drop (at + length xs) o) (at + length xs) n, m, drop-append-add (take at o ++ xs) (drop (at + length xs) o) (length ys), drop-drop (length ys) (at + length xs) o, w, append-assoc (take at o) xs ys)
+
+-- ten stores are a row
+pub ten-stores : (l : List ℕ) (n w : ℕ) (r : Fields) → w ≡ n → 10 * (n + 1) ≤ length l
+    → set (set (set (set (set (set (set (set (set (set l (10 * w) (r .op)) (10 * w + 1) (r .k)) (10 * w + 2) (r .a % 256)) (10 * w + 3) (r .a / 256)) (10 * w + 4) (r .b % 256)) (10 * w + 5) (r .b / 256)) (10 * w + 6) (r .c % 256)) (10 * w + 7) (r .c / 256)) (10 * w + 8) (r .d % 256)) (10 * w + 9) (r .d / 256)
+    ≡ put (10 * n) (tenBytes r) l
+unfolding put
+ten-stores l n w r e h =
+    let nine : 10 * w + 9 ≡ suc (10 * w + 8) = omega arith in
+    let fits : 10 * w + 10 ≤ length l = omega arith in
+    simp (nine, unary-clauses) (sets-eq (tenBytes r) l (10 * w) fits)
+    ∙ ap (λ (m : ℕ). take (10 * m) l ++ tenBytes r ++ drop (10 * m + 10) l) e
+
+moved-moved : (s : Next) (r i j r′ i′ j′ : ℕ) → moved s (r + r′) (i + i′) (j + j′) ≡ moved (moved s r i j) r′ i′ j′
+moved-moved s r i j r′ i′ j′ =
+    let a : s .row + (r + r′) ≡ s .row + r + r′ = omega arith in
+    let b : s .array + (i + i′) ≡ s .array + i + i′ = omega arith in
+    let c : s .set + (j + j′) ≡ s .set + j + j′ = omega arith in
+    rw (a, b, c)
+
+pub moved-row : (s : Next) (r : ℕ) → _≡_ {A = Next} (record { row = s .row + r; array = s .array; set = s .set }) (moved s r 0 0)
+moved-row s r =
+    let a : s .array + 0 ≡ s .array = omega arith in
+    let b : s .set + 0 ≡ s .set = omega arith in
+    rw (a, b)
+
+-- the number of the next row, after r rows
+pub row-after : {s t : Next} {r i j : ℕ} {bs o now : List ℕ} → Puts s r i j bs t o now → t .row ≡ s .row + r
+row-after p = rw (p .numbers)
+
+-- rows behind rows
+pub puts-puts : {s t u : Next} {r i j r′ i′ j′ : ℕ} {xs ys o o₁ o₂ : List ℕ} → length xs ≡ 10 * r → 10 * (s .row + r) ≤ length o
+    → Puts s r i j xs t o o₁ → Puts t r′ i′ j′ ys u o₁ o₂ → Puts s (r + r′) (i + i′) (j + j′) (xs ++ ys) u o o₂
+puts-puts {s} {t} {u} {r} {i} {j} {r′} {i′} {j′} {xs} {ys} {o} {o₁} {o₂} e h p q =
+    let at : 10 * (s .row + r) ≡ 10 * s .row + length xs = omega arith in
+    let row : 10 * t .row ≡ 10 * s .row + length xs = ap (λ (x : Next). 10 * x .row) (p .numbers) ∙ at in
+    record {
+      numbers = q .numbers ∙ ap (λ (x : Next). moved x r′ i′ j′) (p .numbers) ∙ sym (moved-moved s r i j r′ i′ j′);
+      bytes = q .bytes ∙ ap₂ (λ (k : ℕ) (l : List ℕ). put k ys l) row (p .bytes) ∙ put-put (10 * s .row) xs ys o (omega arith);
+    }
+
+-- the same rows, counted or written in another way
+pub puts-as : {s t : Next} {r i j r′ i′ j′ : ℕ} {xs ys o now : List ℕ} → r ≡ r′ → i ≡ i′ → j ≡ j′ → xs ≡ ys → Puts s r i j xs t o now → Puts s r′ i′ j′ ys t o now
+puts-as a b c d p = rw (← a, ← b, ← c, ← d) p
+
+-- the output stays as long as it was
+pub puts-long : {s t : Next} {r i j : ℕ} {bs o now : List ℕ} → length bs ≡ 10 * r → 10 * (s .row + r) ≤ length o → Puts s r i j bs t o now → length now ≡ length o
+puts-long {s} {t} {r} {i} {j} {bs} {o} {now} e h p = ap length (p .bytes) ∙ put-length (10 * s .row) bs o (omega arith)
+
+-- room for fewer rows
+pub space-less : {s : Next} {r : ℕ} {o : List ℕ} (q : ℕ) → Space s r o → q ≤ r → Space s q o
+space-less q h l = record { out = omega (arith, h .out); row = omega (arith, h .row) }
+
+-- room for what follows r rows
+pub space-after : {s t : Next} {r i j : ℕ} {bs o now : List ℕ} (q : ℕ) (o′ : List ℕ) → Puts s r i j bs t o now → Space s (r + q) o → length o′ ≡ length o → Space t q o′
+space-after q o′ p h e = let n = row-after p in record { out = omega (arith, h .out); row = omega (arith, h .row) }
+
+-- ---- rows by name
+
+pub one-row : (X : Row) {x : Fields} {s t : Next} {o now : List ℕ} → x ≡ fieldsOf X → Puts s 1 0 0 (tenBytes x) t o now → Puts s 1 0 0 (bytesOf (X ∷ [])) t o now
+unfolding bytesOf
+one-row X e p = puts-as refl refl refl (ap tenBytes e) p
+
+pub rows-rows : {s t u : Next} {r i j r′ i′ j′ : ℕ} (xs ys : List Row) {o o₁ o₂ : List ℕ} → length xs ≡ r → 10 * (s .row + r) ≤ length o
+    → Puts s r i j (bytesOf xs) t o o₁ → Puts t r′ i′ j′ (bytesOf ys) u o₁ o₂ → Puts s (r + r′) (i + i′) (j + j′) (bytesOf (xs ++ ys)) u o o₂
+rows-rows xs ys e h p q = puts-as refl refl refl (sym (bytes-append xs ys)) (puts-puts (bytes-long xs ∙ ap (λ (n : ℕ). 10 * n) e) h p q)
+
+-- two rows and their AND
+pub pair-rows : (X Y : Row) {x y : Fields} {s w : Next} {o now : List ℕ} (r : ℕ) → x ≡ fieldsOf X → y ≡ fieldsOf Y → Puts s 3 0 0 (tenBytes x ++ tenBytes y ++ bytesOf (AND r (r + 1) ∷ [])) w o now
+    → Puts s 3 0 0 (bytesOf (X ∷ Y ∷ AND r (r + 1) ∷ [])) w o now
+unfolding bytesOf
+pair-rows X Y r d e p = puts-as refl refl refl (ap₂ (λ (a b : Fields). tenBytes a ++ tenBytes b ++ bytesOf (AND r (r + 1) ∷ [])) d e) p
+
+-- a row and the AND of row r, the one before it, with it
+pub also-rows : (X : Row) (r q : ℕ) {x : Fields} {s w : Next} {o now : List ℕ} → x ≡ fieldsOf X → s .row ≡ q → q ≡ r + 1
+    → Puts s 2 0 0 (tenBytes x ++ bytesOf (AND (s .row - 1) (s .row) ∷ [])) w o now → Puts s 2 0 0 (bytesOf (X ∷ AND r q ∷ [])) w o now
+unfolding bytesOf
+also-rows X r q {x} {s} d e f p =
+    let a : s .row - 1 ≡ r = omega arith in
+    puts-as refl refl refl
+    (ap₂ (λ (y : Fields) (k : ℕ). tenBytes y ++ bytesOf (AND k (s .row) ∷ [])) d a ∙ ap (λ (k : ℕ). tenBytes (fieldsOf X) ++ bytesOf (AND r k ∷ [])) e) p
+
+pub puts-none : (s : Next) (o : List ℕ) → Puts s 0 0 0 [] s o o
+unfolding put
+puts-none s o =
+    let a : s .row + 0 ≡ s .row = omega arith in
+    let b : s .array + 0 ≡ s .array = omega arith in
+    let c : s .set + 0 ≡ s .set = omega arith in
+    let e : 10 * s .row + 0 ≡ 10 * s .row = omega arith in
+    record { numbers = rw (a, b, c); bytes = rw e (sym (around (10 * s .row) o)) }
+  where
+    around : (n : ℕ) (l : List ℕ) → (take n l ++ []) ++ drop n l ≡ l
+    around zero l = refl
+    around (suc n) [] = refl
+    around (suc n) (x ∷ l) = ap (λ (z : List ℕ). x ∷ z) (around n l)
+
+module _ (A S x y : ℕ) where
+  pub chains-none : (s : Next) (o : List ℕ) → Puts s 0 0 0 (bytesOf (chains A S x y 0)) s o o
+  unfolding chains bytesOf
+  chains-none s o = puts-none s o
+
+  pub chains-more : (k : ℕ) {z : Fields} {s t u : Next} {o o₁ o₂ : List ℕ} → 10 * (s .row + k) ≤ length o → Puts s k 0 0 (bytesOf (chains A S x y k)) t o o₁
+      → z ≡ fieldsOf (CHAIN A S x y k) → Puts t 1 0 0 (tenBytes z) u o₁ o₂ → Puts s (k + 1) 0 0 (bytesOf (chains A S x y (k + 1))) u o o₂
+  unfolding chains
+  chains-more k h p e q =
+      let n : k + 1 ≡ suc k = add-one k in
+      puts-as refl refl refl (rw n) (rows-rows (chains A S x y k) (CHAIN A S x y k ∷ []) (chains-long A S x y k) h p (one-row (CHAIN A S x y k) e q))
+
+module _ (r q : ℕ) where
+  pub ors-none : (s : Next) (o : List ℕ) → Puts s 0 0 0 (bytesOf (ors r q 0)) s o o
+  unfolding ors bytesOf
+  ors-none s o = puts-none s o
+
+  pub ors-more : (k x y : ℕ) {s t u : Next} {o o₁ o₂ : List ℕ} → 10 * (s .row + k) ≤ length o → Puts s k 0 0 (bytesOf (ors r q k)) t o o₁
+      → x ≡ soFar r q k → y ≡ r + k + 1 → Puts t 1 0 0 (bytesOf (OR x y ∷ [])) u o₁ o₂ → Puts s (k + 1) 0 0 (bytesOf (ors r q (k + 1))) u o o₂
+  unfolding ors
+  ors-more k x y h p d e w =
+      let n : k + 1 ≡ suc k = add-one k in
+      puts-as refl refl refl (rw (n, d, e)) (rows-rows (ors r q k) (OR x y ∷ []) (ors-long r q k) h p w)
+
+  pub so-far-start : r ≡ soFar r q 0
+  unfolding soFar
+  so-far-start = refl
+
+  pub so-far-next : (k x : ℕ) → x ≡ q + k → x ≡ soFar r q (k + 1)
+  unfolding soFar
+  so-far-next k x e = rw (add-one k) e
+
+-- ---- own rows of operators 9 and 10
+
+module _ (S i l : ℕ) {s t u w : Next} {x y : Fields} {o o₁ o₂ o₃ : List ℕ} where
+  pub sep-rows : (A : ℕ) → Space s 5 o → Puts s 1 0 0 (bytesOf (AND (l - 1) (s .row - 1) ∷ [])) t o o₁
+      → x ≡ plain 10 S i (i + 1) → Puts t 2 0 0 (tenBytes x ++ bytesOf (AND (t .row - 1) (t .row) ∷ [])) u o₁ o₂
+      → y ≡ plain 11 A i (i + 1) → Puts u 2 0 0 (tenBytes y ++ bytesOf (AND (u .row - 1) (u .row) ∷ [])) w o₂ o₃
+      → Puts s 5 0 0 (bytesOf (sepRows A S i (i + 1) l (s .row))) w o o₃
+  unfolding fieldsOf
+  sep-rows A h p d q e r =
+      let m = s .row in
+      let n = row-after p in
+      let k = row-after q in
+      rows-rows (AND (l - 1) (m - 1) ∷ SPLIT S i (i + 1) ∷ AND m (m + 1) ∷ []) (APART A i (i + 1) ∷ AND (m + 2) (m + 3) ∷ []) refl (omega (arith, h .out))
+      (rows-rows (AND (l - 1) (m - 1) ∷ []) (SPLIT S i (i + 1) ∷ AND m (m + 1) ∷ []) refl (omega (arith, h .out)) p (also-rows (SPLIT S i (i + 1)) m (m + 1) d n refl q))
+      (also-rows (APART A i (i + 1)) (m + 2) (m + 3) e (omega arith) (omega arith) r)
+
+module _ (A B S i l : ℕ) {s t u w k : Next} {x y z : Fields} {o o₁ o₂ o₃ o₄ : List ℕ} where
+  pub sept-rows : Space s 7 o → Puts s 1 0 0 (bytesOf (AND (l - 1) (s .row - 1) ∷ [])) t o o₁
+      → x ≡ plain 10 (i + 1) i S → Puts t 2 0 0 (tenBytes x ++ bytesOf (AND (t .row - 1) (t .row) ∷ [])) u o₁ o₂
+      → y ≡ plain 11 B i S → Puts u 2 0 0 (tenBytes y ++ bytesOf (AND (u .row - 1) (u .row) ∷ [])) w o₂ o₃
+      → z ≡ plain 12 A B S → Puts w 2 0 0 (tenBytes z ++ bytesOf (AND (w .row - 1) (w .row) ∷ [])) k o₃ o₄
+      → Puts s 7 0 0 (bytesOf (septRows A B S i (i + 1) l (s .row))) k o o₄
+  unfolding fieldsOf
+  sept-rows h p d q e r f v =
+      let m = s .row in
+      let n₁ = row-after p in
+      let n₂ = row-after q in
+      let n₃ = row-after r in
+      rows-rows (AND (l - 1) (m - 1) ∷ SPLIT (i + 1) i S ∷ AND m (m + 1) ∷ APART B i S ∷ AND (m + 2) (m + 3) ∷ []) (SAME A B S ∷ AND (m + 4) (m + 5) ∷ []) refl (omega (arith, h .out))
+      (rows-rows (AND (l - 1) (m - 1) ∷ SPLIT (i + 1) i S ∷ AND m (m + 1) ∷ []) (APART B i S ∷ AND (m + 2) (m + 3) ∷ []) refl (omega (arith, h .out))
+      (rows-rows (AND (l - 1) (m - 1) ∷ []) (SPLIT (i + 1) i S ∷ AND m (m + 1) ∷ []) refl (omega (arith, h .out)) p (also-rows (SPLIT (i + 1) i S) m (m + 1) d n₁ refl q))
+      (also-rows (APART B i S) (m + 2) (m + 3) e (omega arith) (omega arith) r))
+      (also-rows (SAME A B S) (m + 4) (m + 5) f (omega arith) (omega arith) v)

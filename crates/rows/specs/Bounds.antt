@@ -1,0 +1,29 @@
+-- The most rows, bytes, arrays and sets of a table, and how many a node adds. Assumes nothing: these are definitions.
+use Prim.Native.Nat.{ℕ, _+_}
+use lib.Dec.{eqb, leb}
+use Rattle.logic.specs.Tests.{pick}
+
+-- "At most 634 rows and 6,354 bytes."
+abbrev pub mostRows : ℕ
+mostRows = 634
+
+abbrev pub mostBytes : ℕ
+mostBytes = 6354
+
+-- "The judge has up to 32 arrays"
+abbrev pub mostArrays : ℕ
+mostArrays = 32
+
+abbrev pub mostSets : ℕ
+mostSets = 63
+
+-- how many own rows a node of operator o has, at path bound p
+unfoldable pub ownRows : ℕ → ℕ → ℕ
+ownRows p o = pick (leb o 3) 3 (pick (leb o 4) (p + 1 + p) (pick (eqb o 7) 2 (pick (leb o 8) 1 (pick (leb o 9) 5 7))))
+
+-- how many arrays and sets it makes
+unfoldable pub ownArrays : ℕ → ℕ
+ownArrays o = pick (leb o 9) 0 1
+
+unfoldable pub ownSets : ℕ → ℕ
+ownSets o = pick (leb o 8) 0 2

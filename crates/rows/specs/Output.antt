@@ -1,0 +1,38 @@
+-- The encoding of a book, byte by byte, and what the encoder answers and writes. Assumes nothing: these are definitions.
+use mathlib.Core.Path.{_≡_}
+use mathlib.Core.List.{List, [], _∷_, _++_}
+use Prim.Native.Nat.{ℕ, _*_, _/_, _%_, _≤_}
+use lib.ListN.{length, drop}
+use Rattle.logic.specs.declared.Answer.{Answer}
+use Rattle.logic.specs.Numbers.{answer, yes-number, not-encodable, output-length}
+use Rattle.logic.specs.Checks.{Checks, done, check, _then_, Answers}
+use Rattle.logic.specs.Book.{bookChecks, varsOf, locsOf, pathOf, bookFormula}
+use Rattle.rows.specs.Row.{Row, bytesOf}
+use Rattle.rows.specs.Table.{table, Encodable}
+
+-- the rows of the book s
+abbrev pub bookRows : List ℕ → List Row
+bookRows s = table (pathOf s) (bookFormula s)
+
+-- "The output is a book with entries kind 1 (the same bounds) and kind 3 (rows).": the contents and the bounds. The rows are so
+-- many bytes, and start at byte 14
+abbrev pub headOf : ℕ → ℕ → ℕ → ℕ → List ℕ
+headOf v n p bytes = 2 ∷ 1 ∷ 11 ∷ 0 ∷ 3 ∷ 0 ∷ 3 ∷ 14 ∷ 0 ∷ bytes % 256 ∷ bytes / 256 ∷ v ∷ n ∷ p ∷ []
+
+abbrev pub outBook : ℕ → ℕ → ℕ → List Row → List ℕ
+outBook v n p rs = headOf v n p (10 * length rs) ++ bytesOf rs
+
+unfoldable pub encodingOf : List ℕ → List ℕ
+encodingOf s = outBook (varsOf s) (locsOf s) (pathOf s) (bookRows s)
+
+-- "Order: 10 to 13; then nodes upwards, ..; 16; then .. 19, 20 (encoder)"; "under the whole book for the encoder"
+abbrev pub encodeChecks : List ℕ → List ℕ → Checks
+encodeChecks s o =
+    bookChecks s then check (Encodable (bookFormula s)) not-encodable 0 (check (length (encodingOf s) ≤ length o) output-length 0 done)
+
+-- what the encoder gives back for the book s and the output o, and what the output then is: "Output bytes change only with
+-- number 0, only at the front, and only as many as are written."
+pub record Encodes (s o : List ℕ) (a : Answer) (now : List ℕ) : Type 0 where
+  pub number : Answers (encodeChecks s o) (λ r. r ≡ answer yes-number 0) a
+  pub written : a .number ≡ yes-number → now ≡ encodingOf s ++ drop (length (encodingOf s)) o
+  pub refused : ¬ (a .number ≡ yes-number) → now ≡ o

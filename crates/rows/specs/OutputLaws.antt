@@ -1,0 +1,60 @@
+-- What the encoder's statement gives: one answer and one output, and how large an encoding is. Assumes nothing.
+use mathlib.Core.Path.{_≡_, refl, sym, ap, _∙_}
+use mathlib.Core.List.{List, [], _∷_, _++_, append-assoc}
+use Prim.Native.Nat.{ℕ, suc, _+_, _*_, _≤_}
+use native.Mathlib.Decide.{ℕ-discrete}
+use native.Mathlib.Omega.{arith}
+use lib.ListN.{length, length-append}
+use Rattle.logic.specs.declared.Answer.{Answer}
+use Rattle.logic.specs.CheckLaws.{Yes, answers-single, yes-single}
+use Rattle.logic.specs.Table.{tree}
+use Rattle.logic.specs.Book.{bookFormula, varsOf, pathOf, formulaOf, nodes, root, Whole}
+use Rattle.rows.specs.Row.{Row, fieldsOf, tenBytes, bytesOf}
+use Rattle.rows.specs.Table.{start, rowsIn, arrays, sets}
+use Rattle.rows.specs.TableLaws.{rows-long}
+use Rattle.rows.specs.Bounds.{mostRows, mostBytes, mostArrays, mostSets}
+use Rattle.rows.specs.BoundsLaws as trees
+use Rattle.rows.specs.Output.{bookRows, encodingOf, encodeChecks, Encodes}
+
+-- two results that the encoder's statement allows are equal
+pub encodes-single : (s o : List ℕ) (a b : Answer) (x y : List ℕ) → Encodes s o a x → Encodes s o b y → (a ≡ b) × (x ≡ y)
+encodes-single s o a b x y p q = (same, outputs (ℕ-discrete (a .number) 0))
+  where
+    same : a ≡ b
+    same = answers-single (encodeChecks s o) Yes yes-single a b (p .number) (q .number)
+
+    outputs : Dec (a .number ≡ 0) → x ≡ y
+    outputs (yes e) = p .written e ∙ sym (q .written (ap (λ (r : Answer). r .number) (sym same) ∙ e))
+    outputs (no e) = p .refused e ∙ sym (q .refused (λ z. e (ap (λ (r : Answer). r .number) same ∙ z)))
+
+pub bytes-append : (xs ys : List Row) → bytesOf (xs ++ ys) ≡ bytesOf xs ++ bytesOf ys
+unfolding bytesOf
+bytes-append [] ys = refl
+bytes-append (x ∷ xs) ys = rw (bytes-append xs ys) (sym (append-assoc (tenBytes (fieldsOf x)) (bytesOf xs) (bytesOf ys)))
+
+pub bytes-long : (xs : List Row) → length (bytesOf xs) ≡ 10 * length xs
+unfolding bytesOf
+bytes-long [] = refl
+bytes-long (x ∷ xs) = simp length-append (omega (arith, bytes-long xs))
+
+pub encoding-long : (s : List ℕ) → length (encodingOf s) ≡ 14 + 10 * rowsIn (pathOf s) (bookFormula s)
+unfolding encodingOf
+encoding-long s = omega (arith, bytes-long (bookRows s), rows-long (pathOf s) (bookFormula s) 0 0 start)
+
+-- ---- an accepted book's
+
+module _ (s : List ℕ) (w : Whole s) where
+  last : nodes (formulaOf s) ≡ suc (root (formulaOf s))
+  last = omega (arith, w .some)
+
+  pub rows-few : rowsIn (pathOf s) (bookFormula s) ≤ mostRows
+  rows-few = trees.rows-few (varsOf s) (pathOf s) (formulaOf s) (nodes (formulaOf s)) (w .sound) (w .tree) (root (formulaOf s)) last (w .few) (w .bounds .path)
+
+  pub bytes-few : length (encodingOf s) ≤ mostBytes
+  bytes-few = omega (arith, encoding-long s, rows-few)
+
+  pub arrays-few : arrays (bookFormula s) ≤ mostArrays
+  arrays-few = trees.arrays-few (varsOf s) (pathOf s) (formulaOf s) (nodes (formulaOf s)) (w .sound) (w .tree) (root (formulaOf s)) last (w .few) (w .bounds .path)
+
+  pub sets-few : sets (bookFormula s) ≤ mostSets
+  sets-few = trees.sets-few (varsOf s) (pathOf s) (formulaOf s) (nodes (formulaOf s)) (w .sound) (w .tree) (root (formulaOf s)) last (w .few) (w .bounds .path)

@@ -1,0 +1,64 @@
+//! The encoder: the case lines, all small books, random books at every length of output.
+
+use cases::line::{about, Call, Outcome};
+use cases::made::{book, small, tree};
+use cases::random::Random;
+use second::encode::encode;
+
+use crate::compare::{proved, MOST};
+
+/// The longest encoding.
+const LONGEST: usize = 6_354;
+
+/// Few negations, so that most books have an encoding.
+const OPERATORS: [u8; 16] = [1, 2, 3, 3, 4, 4, 5, 5, 6, 6, 7, 8, 9, 9, 10, 10];
+
+#[test]
+fn encode_lines() {
+    for case in about(Call::Encode) {
+        let mut out = case.buffer();
+        let answer = proved(hollyspool::encode(&case.book, &mut out));
+        let outcome = Outcome::of(answer.number, answer.place, answer.tried, out);
+        assert_eq!(outcome, case.outcome, "{}", case.source);
+    }
+}
+
+#[test]
+fn every_small_book() {
+    for p in 0..=MOST {
+        for nodes in small(2) {
+            same_encoding(&book([2, 2, p], &nodes), 200);
+        }
+    }
+}
+
+#[test]
+fn random_books() {
+    let mut random = Random::new(0xE2C);
+    for round in 0..5_000 {
+        let bounds = [(); 3].map(|()| random.up_to(MOST));
+        let nodes = tree(&mut random, bounds[0], 1 + round % 64, &OPERATORS);
+        let book = book(bounds, &nodes);
+        let length = same_encoding(&book, LONGEST + 1);
+        for room in [
+            length.saturating_sub(1),
+            length,
+            length + 1,
+            random.below(LONGEST),
+        ] {
+            same_encoding(&book, room);
+        }
+    }
+}
+
+/// Compares two encodings and every byte of their outputs. Gives the length that was written.
+fn same_encoding(book: &[u8], room: usize) -> usize {
+    let (mut out, mut expected) = (vec![0xA5; room], vec![0xA5; room]);
+    let answer = proved(hollyspool::encode(book, &mut out));
+    let second = encode(book, &mut expected);
+    assert_eq!((answer, &out), (second, &expected), "{room} for {book:?}");
+    match second.number {
+        0 => 14 + usize::from(u16::from_le_bytes([out[9], out[10]])),
+        _ => 0,
+    }
+}
