@@ -1,5 +1,5 @@
-//! Models judged and candidates searched a second, by the proved bench and by the second one, in one run; how a search's
-//! time grows with its budget; and how much stack the proved judge takes.
+//! Models judged, candidates searched, books encoded and assignments judged a second, by the proved bench and by the second
+//! one, in one run; how a search's time grows with its budget; and how much stack the proved judge takes.
 //!
 //! Both are given the same bytes, book and model anew for each call; there are no buffers to clear.
 //! No model fits any of the formulas, so each is judged to the end.
@@ -59,6 +59,7 @@ const BUDGETS: [u64; 4] = [3_000_000, 3_000_000, 3_000_000, 20_000];
 fn main() {
     judged();
     searched();
+    encoded();
     depths();
 }
 
@@ -107,6 +108,66 @@ fn searched() {
         }
         println!();
     }
+}
+
+fn encoded() {
+    println!("bounds 6 6 6, books encoded a second, and assignments judged a second");
+    println!(
+        "{:<34} {:<12} {:>12} {:>12} {:>6}",
+        "formula", "call", "proved", "second", "ratio"
+    );
+    for (name, nodes) in FORMULAS {
+        let book = book(BOUNDS, nodes);
+        if second::encode::encode(&book, &mut [0; 6354]).number == 0 {
+            compare_calls(
+                name,
+                "encode",
+                |out| hollyspool::encode(black_box(&book), out).number,
+                |out| second::encode::encode(black_box(&book), out).number,
+            );
+            let assignment = vec![0; length(nodes)];
+            compare_calls(
+                name,
+                "assign",
+                |_| hollyspool::assign(black_box(&book), black_box(&assignment)).number,
+                |_| second::assign::assign(black_box(&book), black_box(&assignment)).number,
+            );
+        }
+    }
+}
+
+/// Prints how often a second each side answers, which must be 0 or 1 on both.
+fn compare_calls(
+    name: &str,
+    call: &str,
+    proved: impl Fn(&mut [u8]) -> u64,
+    second: impl Fn(&mut [u8]) -> u64,
+) {
+    let mut out = [0; 6354];
+    let mut fastest = [f64::INFINITY; 2];
+    for _ in 0..20 * RUNS {
+        let [first, other] = [call_time(&mut out, &proved), call_time(&mut out, &second)];
+        fastest = [fastest[0].min(first), fastest[1].min(other)];
+    }
+    let [proved, second] = fastest.map(|taken| f64::from(CALLS) / taken);
+    let ratio = proved / second;
+    println!("{name:<34} {call:<12} {proved:>12.0} {second:>12.0} {ratio:>6.2}");
+}
+
+const CALLS: u32 = 4_096;
+
+fn call_time(out: &mut [u8], call: impl Fn(&mut [u8]) -> u64) -> f64 {
+    let start = Instant::now();
+    for _ in 0..CALLS {
+        assert!(call(out) < 2);
+    }
+    start.elapsed().as_secs_f64()
+}
+
+/// The length of an assignment: six locations, six bytes an array, one a set.
+fn length(nodes: &[[u8; 3]]) -> usize {
+    let with = |least| nodes.iter().filter(|node| node[0] >= least).count();
+    6 + 6 * (1 + with(10)) + 1 + 2 * with(9)
 }
 
 /// The time of a search that spends its budget.

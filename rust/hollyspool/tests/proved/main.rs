@@ -1,6 +1,7 @@
 //! The proved calls, beside the case files and the second bench.
 
 mod assign;
+mod both_ways;
 mod compare;
 mod damaged;
 mod encode;
