@@ -10,3 +10,4 @@ mod lines;
 mod made;
 mod program;
 mod search;
+mod witness;
