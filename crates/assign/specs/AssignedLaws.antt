@@ -1,9 +1,10 @@
 -- An assignment whose bytes are in range is in range, and the judge's statement allows one answer. Assumes nothing.
 use mathlib.Core.Path.{_≡_, refl, _∙_, ap}
-use mathlib.Core.Bool.{Bool, false}
+use mathlib.Core.Bool.{Bool, true, false}
 use mathlib.Core.List.{List}
 use mathlib.Core.Logic.{_⊎_, ⊎-elim}
 use Prim.Native.Nat.{ℕ, zero, suc, zero-le, _+_, _*_, _^_, _<_, _≤_}
+use native.Mathlib.Nat.{le-of-suc-le-suc}
 use native.Mathlib.Decide.{decLt}
 use native.Mathlib.Omega.{arith}
 use lib.Dec.{ltb}
@@ -68,6 +69,15 @@ module _ (v n a b : ℕ) (q : List ℕ) (ok : Passes (assignmentChecks v n a b q
       go (yes l) (no m) = rw (lt-ltb i a l, le-ltb j n (omega arith)) zero-le
       go (yes l) (yes m) = rw (lt-ltb i a l, lt-ltb j n m) (value-low (v + i * n + j) (omega (arith, rows-fit i n a l)))
 
+  array-alone : (i ℓ : ℕ) → (ℓ ≡ 0) ⊎ (n < ℓ) → arrayIn v n a q i ℓ ≡ 0
+  unfolding arrayIn
+  array-alone i zero z = refl
+  array-alone i (suc j) z = ⊎-elim (λ e. absurd (omega arith)) (λ l. none (ltb i a) (le-ltb j n (le-of-suc-le-suc l))) z
+    where
+      none : (t : Bool) → ltb j n ≡ false → pick (andb t (ltb j n)) (getD q (v + i * n + j) 0) 0 ≡ 0
+      none true e = rw e
+      none false e = refl
+
   set-past : (j ℓ : ℕ) → n < ℓ → setIn v n a q j ℓ ≡ false
   set-past j ℓ m = go (decLt j b)
     where
@@ -81,6 +91,7 @@ module _ (v n a b : ℕ) (q : List ℕ) (ok : Passes (assignmentChecks v n a b q
       record {
         stack = record { nil = refl; low = stack-low; past = stack-past };
         low = array-low;
+        alone = array-alone;
         nil = λ j. refl;
         past = set-past;
       }

@@ -5,3 +5,8 @@ pub mod NodeLaws
 pub mod UnpackLaws
 pub mod AssignedLaws
 pub mod Judging
+pub mod ModelOf
+pub mod ModelOfLaws
+pub mod BytesOf
+pub mod BytesOfLaws
+pub mod Solutions

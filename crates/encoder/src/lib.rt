@@ -1,4 +1,6 @@
 // The encoder: the table of a book's formula, as a book of its own, written to the front of the output.
+use book::answer_of;
+use contents::body;
 use logic::Answer;
 use rows::Fields;
 use rows::Next;
@@ -6,7 +8,6 @@ ghost use mathlib.Core.Path.{_≡_};
 ghost use mathlib.Core.List.{_++_, [], _∷_};
 ghost use Prim.Native.Nat.{_+_, _-_, _*_, _/_, _%_, _≤_, _<_};
 ghost use lib.ListN.{length};
-ghost use Rattle.logic.specs.Numbers.{answer};
 ghost use Rattle.logic.specs.Reflect.{Is};
 ghost use Rattle.logic.specs.Table.{tree, atomOf, joinOf, opOf};
 ghost use Rattle.logic.specs.Book.{nodes, root};
@@ -428,17 +429,6 @@ fn write(out: &mut [u8], f: &[u8], v: u8, n: u8, p: u8, rows: u16)
     let _t = node(&mut out[14..], f, p, end, 0, 0, st);
 }
 
-// The answer of a number outside search, which has no place.
-fn answer_of(number: u64) -> Answer
-    ensures { λ r. ⌜ r ≡ answer number 0 ⌝ }
-{
-    Answer {
-        number,
-        place: 0,
-        tried: 0,
-    }
-}
-
 // The encoding of a book, at the front of the output: number 0, or the refusal of the first part that fails, and then nothing
 // changes.
 pub fn encode(book: &[u8], out: &mut [u8]) -> Answer
@@ -448,16 +438,16 @@ pub fn encode(book: &[u8], out: &mut [u8]) -> Answer
     if a.number != logic::YES {
         return a;
     }
-    let b = contents::body(book, 0);
-    let f = contents::body(book, 1);
+    let b = body(book, 0);
+    let f = body(book, 1);
     if !encodable(f, f.len() / 3 - 1) {
-        return answer_of(logic::NOT_ENCODABLE);
+        return answer_of(logic::NOT_ENCODABLE, 0);
     }
     let p = b[2];
     let rows = row_count(f, p);
     if out.len() < 14 + 10 * long(rows) {
-        return answer_of(logic::OUTPUT_LENGTH);
+        return answer_of(logic::OUTPUT_LENGTH, 0);
     }
     write(out, f, b[0], b[1], p, rows);
-    answer_of(logic::YES)
+    answer_of(logic::YES, 0)
 }

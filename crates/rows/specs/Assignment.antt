@@ -1,6 +1,7 @@
 -- Assignments to the arrays and sets of a table. Assumes nothing: these are definitions.
 use mathlib.Core.Path.{_≡_}
 use mathlib.Core.Bool.{Bool, true, false}
+use mathlib.Core.Logic.{_⊎_}
 use Prim.Native.Nat.{ℕ, suc, _<_, _≤_}
 use Rattle.logic.specs.Heap.{Map, Stack}
 use Rattle.logic.specs.Tests.{pick}
@@ -19,10 +20,11 @@ pub record Assignment : Type 0 where
   pub array : ℕ → Map
   pub set : ℕ → Set
 
--- values are "0 to n"; members are locations from 1 to n
+-- values are "0 to n", at locations 1 to n alone; members are locations from 1 to n
 pub record InRange (v n : ℕ) (ν : Assignment) : Type 0 where
   pub stack : Stack v n (ν .stack)
   pub low : (i ℓ : ℕ) → ν .array i ℓ ≤ n
+  pub alone : (i ℓ : ℕ) → (ℓ ≡ 0) ⊎ (n < ℓ) → ν .array i ℓ ≡ 0
   pub nil : (j : ℕ) → ν .set j 0 ≡ false
   pub past : (j ℓ : ℕ) → n < ℓ → ν .set j ℓ ≡ false
 

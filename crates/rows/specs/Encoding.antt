@@ -1,17 +1,18 @@
 -- The encoding's theorem, both ways: the satisfying assignments of a formula's table have exactly the models that fit it.
 -- Assumes nothing.
-use mathlib.Core.Path.{_≡_, sym, ap₂, _∙_}
+use mathlib.Core.Path.{_≡_, refl, sym, ap₂, _∙_}
 use Prim.Native.Nat.{ℕ}
 use native.Mathlib.Omega.{arith}
 use Rattle.logic.specs.Heap.{Map, Stack, Heap}
 use Rattle.logic.specs.Formula.{Form}
+use Rattle.logic.specs.Holds.{Holds}
 use Rattle.logic.specs.Model.{Fits}
 use Rattle.logic.specs.Tests.{allocated}
 use Rattle.rows.specs.Assignment.{Assignment, InRange, on, modelHeap}
 use Rattle.rows.specs.Meaning.{Satisfies}
 use Rattle.rows.specs.Table.{table, Encodable}
 use Rattle.rows.specs.LastRow.{satisfies-condition}
-use Rattle.rows.specs.PartSets.{not-allocated, values, values-low, whole}
+use Rattle.rows.specs.PartSets.{not-allocated, values, values-low, values-alone, whole}
 use Rattle.rows.specs.Sound.{sound}
 use Rattle.rows.specs.Complete.{complete}
 
@@ -34,6 +35,7 @@ module _ (v n p : ℕ) (F : Form) (c : Encodable F) where
       let k : InRange v n ν = record {
         stack = ks;
         low = λ i ℓ. values-low n h kh ℓ;
+        alone = λ i ℓ z. values-alone n h kh ℓ z;
         nil = λ j. not-allocated h 0 (kh .nil);
         past = λ j ℓ l. not-allocated h ℓ (kh .past ℓ l);
       } in

@@ -1,13 +1,14 @@
 -- Two parts of a heap, as sets and an array: what SPLIT, APART and SAME say of them. Assumes nothing.
-use mathlib.Core.Path.{_≡_, sym, subst, subst₂, _∙_, fun-ext}
-use mathlib.Core.Bool.{false}
-use mathlib.Core.Logic.{inl, inr, ⊎-elim, _↔_}
-use Prim.Native.Nat.{ℕ, suc, pred, _≤_}
+use mathlib.Core.Path.{_≡_, refl, sym, subst, subst₂, _∙_, ap, fun-ext}
+use mathlib.Core.Bool.{Bool, true, false}
+use mathlib.Core.Logic.{_⊎_, inl, inr, ⊎-elim, _↔_}
+use Prim.Native.Nat.{ℕ, suc, pred, _<_, _≤_}
 use native.Mathlib.Decide.{ℕ-discrete}
 use native.Mathlib.Omega.{arith}
-use borrow.Author.Tests.{eq-eqb}
+use lib.Dec.{eqb}
+use borrow.Author.Tests.{eq-eqb, ne-eqb}
 use Rattle.logic.specs.Heap.{Map, Heap, Allocated, StronglyDisjoint, Parts}
-use Rattle.logic.specs.Tests.{allocated}
+use Rattle.logic.specs.Tests.{allocated, union}
 use Rattle.logic.specs.Agree.{is-allocated, union-heap, union-is}
 use Rattle.rows.specs.Assignment.{Set, Member, on}
 use Rattle.rows.specs.Meaning.{Splits, Apart, Same}
@@ -78,6 +79,10 @@ values-low n u k ℓ = go (u ℓ) (k .low ℓ)
   where
     go : (x : ℕ) → x ≤ suc n → pred x ≤ n
     go x l = omega arith
+
+pub values-alone : (n : ℕ) (u : Map) → Heap n u → (ℓ : ℕ) → (ℓ ≡ 0) ⊎ (n < ℓ) → values u ℓ ≡ 0
+unfolding values
+values-alone n u k ℓ z = ap pred (⊎-elim (λ e. ap u e ∙ k .nil) (λ l. k .past ℓ l) z)
 
 module _ (A : Map) (S : Set) (g u : Map) (pt : Parts g (on A S) u) where
   pub added-part : on (values u) (allocated g) ≡ g

@@ -1,8 +1,8 @@
 -- Arrays and sets that are assigned anew, and that a condition reads no symbol but those that it is given and those that it
 -- makes. Assumes nothing.
-use mathlib.Core.Path.{_≡_, refl, sym, _∙_}
+use mathlib.Core.Path.{_≡_, refl, sym, _∙_, ap}
 use mathlib.Core.Bool.{Bool, true, false}
-use mathlib.Core.Logic.{inl, inr, ⊎-elim}
+use mathlib.Core.Logic.{_⊎_, inl, inr, ⊎-elim}
 use Prim.Native.Nat.{ℕ, _+_, _<_, _≤_}
 use native.Mathlib.Omega.{arith}
 use lib.Dec.{eqb}
@@ -106,7 +106,7 @@ module _ (v n : ℕ) (ν : Assignment) (k : ℕ) where
     pub set : (m : ℕ) → μ .set m ≡ ν .set m
     pub new : μ .array k ≡ T
     pub old : (m : ℕ) → ¬ (m ≡ k) → μ .array m ≡ ν .array m
-    pub in-range : InRange v n ν → ((ℓ : ℕ) → T ℓ ≤ n) → InRange v n μ
+    pub in-range : InRange v n ν → ((ℓ : ℕ) → T ℓ ≤ n) → ((ℓ : ℕ) → (ℓ ≡ 0) ⊎ (n < ℓ) → T ℓ ≡ 0) → InRange v n μ
 
   pub new-set : (T : Set) → NewSet T (withSet ν k T)
   unfolding withSet pickSet
@@ -116,7 +116,7 @@ module _ (v n : ℕ) (ν : Assignment) (k : ℕ) where
         array = λ m. refl;
         new = rw (eq-eqb k k refl);
         old = λ m e. rw (ne-eqb m k e);
-        in-range = λ l z q. record { stack = l .stack; low = l .low; nil = λ i. nil′ (eqb i k) i l z; past = λ i ℓ m. past′ (eqb i k) i ℓ l q m };
+        in-range = λ l z q. record { stack = l .stack; low = l .low; alone = l .alone; nil = λ i. nil′ (eqb i k) i l z; past = λ i ℓ m. past′ (eqb i k) i ℓ l q m };
       }
     where
       nil′ : (b : Bool) (i : ℕ) → InRange v n ν → T 0 ≡ false → pickSet b T (ν .set i) 0 ≡ false
@@ -135,9 +135,13 @@ module _ (v n : ℕ) (ν : Assignment) (k : ℕ) where
         set = λ m. refl;
         new = rw (eq-eqb k k refl);
         old = λ m e. rw (ne-eqb m k e);
-        in-range = λ l q. record { stack = l .stack; low = λ i ℓ. low′ (eqb i k) i ℓ l q; nil = l .nil; past = l .past };
+        in-range = λ l q w. record { stack = l .stack; low = λ i ℓ. low′ (eqb i k) i ℓ l q; alone = λ i ℓ z. alone′ (eqb i k) i ℓ l (w ℓ) z; nil = l .nil; past = l .past };
       }
     where
       low′ : (b : Bool) (i ℓ : ℕ) → InRange v n ν → ((ℓ : ℕ) → T ℓ ≤ n) → pickMap b T (ν .array i) ℓ ≤ n
       low′ true i ℓ l q = q ℓ
       low′ false i ℓ l q = l .low i ℓ
+
+      alone′ : (b : Bool) (i ℓ : ℕ) → InRange v n ν → ((ℓ ≡ 0) ⊎ (n < ℓ) → T ℓ ≡ 0) → (ℓ ≡ 0) ⊎ (n < ℓ) → pickMap b T (ν .array i) ℓ ≡ 0
+      alone′ true i ℓ l w z = w z
+      alone′ false i ℓ l w z = l .alone i ℓ z
