@@ -1,62 +1,29 @@
 // The program: reads a book from standard input, searches it, and prints the answer and the model that was found.
-use logic::Answer;
+use contents::part;
+use contents::wide;
+ghost use Prim.Native.Nat.{_≤_};
+ghost use lib.ListN.{length, take};
+ghost use Rattle.shape.specs.Prints.{Prints};
 
-// One space, then the number, or '-' for a location that is not allocated.
-fn print_cell(x: u8) {
-    if x == 255 {
-        io::write_all(1, b" -");
-    } else {
-        io::write_all(1, b" ");
-        io::print_decimal(1, x as u64);
+// What is printed for the book, to the front of the output; gives back its length.
+fn print(book: &[u8], out: &mut [u8]) -> usize
+    requires { ⌜ 256 ≤ length (now out) ⌝ }
+    ensures { λ r. ⌜ Prints (now (book .entry)) (take r (now (out .exit))) × (r ≤ length (now (out .exit))) ⌝ }
+{
+    let mut model = [0u8; 16];
+    let a = search::search(book, 1000000, &mut model);
+    if a.number != logic::YES {
+        return text::text(a, &model, 0, 0, out);
     }
-}
-
-fn print_cells(cells: &[u8]) {
-    for i in 0..cells.len() {
-        print_cell(cells[i]);
-    }
-}
-
-// The stack line and the heap line of a model over v variables and n locations.
-fn print_model(model: &[u8], v: usize, n: usize) {
-    if 255 < v {
-        return;
-    }
-    if 255 < n {
-        return;
-    }
-    let end = v + n;
-    if model.len() < end {
-        return;
-    }
-    io::write_all(1, b"stack");
-    print_cells(&model[0..v]);
-    io::write_all(1, b"\nheap");
-    print_cells(&model[v..end]);
-    io::write_all(1, b"\n");
-}
-
-fn print_answer(a: Answer) {
-    io::write_all(1, b"answer ");
-    io::print_decimal(1, a.number);
-    io::write_all(1, b" place ");
-    io::print_decimal(1, a.place);
-    io::write_all(1, b" tried ");
-    io::print_decimal(1, a.tried);
-    io::write_all(1, b"\n");
+    let bounds = part(book, 0);
+    text::text(a, &model, wide(bounds[0]), wide(bounds[1]), out)
 }
 
 fn main() {
     // One byte more than the longest book, so that a longer input is seen to be one.
     let mut input = [0u8; 207];
     let count = io::read_full(0, &mut input);
-    let mut model = [0u8; 16];
-    let a = search::search(&input[..count], 1000000, &mut model);
-    print_answer(a);
-    if a.number == logic::YES {
-        let bounds = contents::body(&input[..count], 0);
-        if 1 < bounds.len() {
-            print_model(&model, contents::wide(bounds[0]), contents::wide(bounds[1]));
-        }
-    }
+    let mut out = [0u8; 256];
+    let size = print(&input[..count], &mut out);
+    io::write_all(1, &out[..size]);
 }

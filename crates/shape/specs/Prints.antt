@@ -1,0 +1,24 @@
+-- What the program prints for a book. Assumes nothing: these are definitions.
+use mathlib.Core.Path.{_≡_}
+use mathlib.Core.List.{List}
+use Prim.Native.Nat.{ℕ}
+use lib.ListN.{replicate}
+use Rattle.logic.specs.declared.Answer.{Answer}
+use Rattle.logic.specs.Book.{varsOf, locsOf}
+use Rattle.logic.specs.Search.{Searches}
+use Rattle.text.specs.Text.{textOf}
+
+-- "searches with budget 1,000,000"
+abbrev pub budget : ℕ
+budget = 1000000
+
+-- the search's output, before the search: room for every model
+abbrev pub blank : List ℕ
+blank = replicate 16 0
+
+-- "The program `shape` reads a book .., searches .. and .. prints": the text of the search's answer and of its model
+pub record Prints (s text : List ℕ) : Type 0 where
+  pub answer : Answer
+  pub model : List ℕ
+  pub search : Searches s budget blank answer model
+  pub shows : text ≡ textOf answer (varsOf s) (locsOf s) model

@@ -1,0 +1,49 @@
+-- What is printed for a book is one text, and how it comes about. Assumes nothing.
+use mathlib.Core.Path.{_≡_, sym, ap, ap₂, _∙_}
+use mathlib.Core.List.{List, _++_}
+use Prim.Native.Nat.{ℕ, _≤_}
+use native.Mathlib.Omega.{arith}
+use lib.ListN.{length, take, drop, getD, length-append}
+use lib.Seq.{take-at}
+use Rattle.logic.specs.declared.Answer.{Answer}
+use Rattle.logic.specs.Numbers.{yes-number}
+use Rattle.logic.specs.Book.{stretch, varsOf, locsOf, Whole}
+use Rattle.logic.specs.BookLaws.{accepted-whole}
+use Rattle.logic.specs.Search.{Searches}
+use Rattle.logic.specs.SearchLaws.{searches-single}
+use Rattle.logic.specs.RefusalLaws.{searches-answered}
+use Rattle.text.specs.Text.{textOf}
+use Rattle.text.specs.TextLaws.{text-no}
+use Rattle.shape.specs.Prints.{budget, blank, Prints}
+
+pub prints-single : (s x y : List ℕ) → Prints s x → Prints s y → x ≡ y
+prints-single s x y p q =
+    let same = searches-single s budget blank (p .answer) (q .answer) (p .model) (q .model) (p .search) (q .search) in
+    p .shows ∙ ap₂ (λ (a : Answer) (m : List ℕ). textOf a (varsOf s) (locsOf s) m) (same .0) (same .1) ∙ sym (q .shows)
+
+module _ (s : List ℕ) (a : Answer) (m : List ℕ) (q : Searches s budget blank a m) where
+  -- a model that was found is one of an accepted book
+  pub found-whole : a .number ≡ yes-number → Whole s
+  found-whole e = accepted-whole s (searches-answered s budget blank a m q (omega arith) .accepted)
+
+  -- what stands at the front of the output, by its length
+  pub prints-front : (v n : ℕ) → textOf a v n m ≡ textOf a (varsOf s) (locsOf s) m → (o : List ℕ) (r : ℕ) (o′ : List ℕ)
+      → (r ≡ length (textOf a v n m)) × (o′ ≡ textOf a v n m ++ drop (length (textOf a v n m)) o) → Prints s (take r o′) × (r ≤ length o′)
+  prints-front v n same o r o′ w =
+      let t = textOf a v n m in (
+        record {
+          answer = a;
+          model = m;
+          search = q;
+          shows = ap (take r) (w .1) ∙ take-at t (drop (length t) o) r (sym (w .0)) ∙ same;
+        },
+        omega (arith, w .0, ap length (w .1), length-append t (drop (length t) o)),
+      )
+
+  -- without a model the bounds do not matter
+  pub bounds-free : ¬ (a .number ≡ yes-number) → textOf a 0 0 m ≡ textOf a (varsOf s) (locsOf s) m
+  bounds-free f = sym (text-no a 0 0 m f) ∙ text-no a (varsOf s) (locsOf s) m f
+
+  -- the bounds are the first two bytes of their body
+  pub bounds-read : (b : List ℕ) (v n : ℕ) → b ≡ stretch s 0 → v ≡ getD b 0 0 → n ≡ getD b 1 0 → textOf a v n m ≡ textOf a (varsOf s) (locsOf s) m
+  bounds-read b v n e p r = ap₂ (λ (x y : ℕ). textOf a x y m) (p ∙ ap (λ (l : List ℕ). getD l 0 0) e) (r ∙ ap (λ (l : List ℕ). getD l 1 0) e)

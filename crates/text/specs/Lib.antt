@@ -1,0 +1,5 @@
+pub mod Text
+pub mod Puts
+pub mod PutsLaws
+pub mod TextLaws
+pub mod TextExamples

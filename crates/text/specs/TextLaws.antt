@@ -1,0 +1,181 @@
+-- Laws of what is printed: a number's digits one by one, a cell more on a line, and how long the whole is at most. Assumes
+-- nothing.
+use mathlib.Core.Path.{_≡_, refl, sym, ap, ap₂, _∙_}
+use mathlib.Core.List.{List, [], _∷_, _++_, append-nil, append-assoc}
+use Prim.Native.Nat.{ℕ, zero, suc, _+_, _-_, _*_, _/_, _%_, _^_, _<_, _≤_}
+use native.Mathlib.Nat.{div-lt-iff-lt-mul, pow-suc}
+use native.Mathlib.Numerals.{add-one}
+use native.Mathlib.Decide.{decLt, ℕ-discrete}
+use native.Mathlib.Omega.{arith}
+use lib.Dec.{ltb, eqb}
+use lib.ListN.{length, take, drop, getD, length-append, length-take, take-append-drop}
+use lib.Seq.{take-suc, getD-take, getD-drop}
+use borrow.Author.Tests.{lt-ltb, le-ltb, eq-eqb, ne-eqb}
+use Rattle.logic.specs.declared.Answer.{Answer}
+use Rattle.logic.specs.Numbers.{yes-number}
+use Rattle.text.specs.Text.{figure, digits, decimal, line-feed, space, answer-word, place-word, tried-word, stack-word, heap-word, numbered, firstLine, valueText, cellText, cellsText, line, stackLine, heapLine, modelText, textOf}
+use Rattle.text.specs.Puts.{Room}
+
+-- ---- decimal digits
+
+digits-one : (k x : ℕ) → x < 10 → digits (suc k) x ≡ figure x ∷ []
+unfolding digits
+digits-one k x l = rw (lt-ltb x 10 l)
+
+digits-more : (k x : ℕ) → 10 ≤ x → digits (suc k) x ≡ digits k (x / 10) ++ (figure (x % 10) ∷ [])
+unfolding digits
+digits-more k x l = rw (le-ltb x 10 l)
+
+-- more room than a number needs changes nothing
+digits-enough : (k j x : ℕ) → x < k → x < j → digits k x ≡ digits j x
+digits-enough zero j x p q = absurd (omega arith)
+digits-enough (suc k) zero x p q = absurd (omega arith)
+digits-enough (suc k) (suc j) x p q = go (decLt x 10) (λ l. digits-enough k j (x / 10) (omega arith) (omega arith))
+  where
+    go : Dec (x < 10) → (10 ≤ x → digits k (x / 10) ≡ digits j (x / 10)) → digits (suc k) x ≡ digits (suc j) x
+    go (yes l) ih = digits-one k x l ∙ sym (digits-one j x l)
+    go (no l) ih =
+        let h : 10 ≤ x = omega arith in
+        digits-more k x h ∙ ap (λ (r : List ℕ). r ++ (figure (x % 10) ∷ [])) (ih h) ∙ sym (digits-more j x h)
+
+pub decimal-one : (x : ℕ) → x < 10 → decimal x ≡ figure x ∷ []
+unfolding decimal
+decimal-one x l = digits-one x x l
+
+pub decimal-more : (x : ℕ) → 10 ≤ x → decimal x ≡ decimal (x / 10) ++ (figure (x % 10) ∷ [])
+unfolding decimal
+decimal-more x l =
+    digits-more x x l ∙ ap (λ (r : List ℕ). r ++ (figure (x % 10) ∷ [])) (digits-enough x (suc (x / 10)) (x / 10) (omega arith) (omega arith))
+
+-- the same, from a byte that is the digit's
+pub figure-one : (x d : ℕ) → x < 10 → d ≡ figure x → d ∷ [] ≡ decimal x
+figure-one x d l e = ap (λ (y : ℕ). y ∷ []) e ∙ sym (decimal-one x l)
+
+pub figure-more : (x d : ℕ) → 10 ≤ x → d ≡ figure (x % 10) → decimal (x / 10) ++ (d ∷ []) ≡ decimal x
+figure-more x d l e = ap (λ (y : ℕ). decimal (x / 10) ++ (y ∷ [])) e ∙ sym (decimal-more x l)
+
+-- a number below 10^(k + 1) has at most k + 1 digits
+decimal-short : (k x : ℕ) → x < 10 ^ suc k → length (decimal x) ≤ suc k
+decimal-short zero x l = let e = ap length (decimal-one x l) in omega arith
+decimal-short (suc k) x l = go (decLt x 10) (λ h. decimal-short k (x / 10) h)
+  where
+    less : x / 10 < 10 ^ suc k
+    less = div-lt-iff-lt-mul {k = 10} {x = x} {y = 10 ^ suc k} (omega arith) .1 (rw (pow-suc 10 (suc k)) at l)
+
+    go : Dec (x < 10) → (x / 10 < 10 ^ suc k → length (decimal (x / 10)) ≤ suc k) → length (decimal x) ≤ suc (suc k)
+    go (yes h) ih = let e = ap length (decimal-one x h) in omega arith
+    go (no h) ih =
+        let e = ap length (decimal-more x (omega arith)) ∙ length-append (decimal (x / 10)) (figure (x % 10) ∷ []) in
+        omega (arith, ih less)
+
+-- ---- cells
+
+pub value-none : (x : ℕ) → x ≡ 255 → 45 ∷ [] ≡ valueText x
+unfolding valueText
+value-none x e = rw (eq-eqb x 255 e)
+
+pub value-some : (x y : ℕ) → ¬ (x ≡ 255) → y ≡ x → decimal y ≡ valueText x
+unfolding valueText
+value-some x y f e = rw (ne-eqb x 255 f) (ap decimal e)
+
+cells-append : (xs ys : List ℕ) → cellsText (xs ++ ys) ≡ cellsText xs ++ cellsText ys
+unfolding cellsText
+cells-append [] ys = refl
+cells-append (x ∷ xs) ys = ap (λ (r : List ℕ). cellText x ++ r) (cells-append xs ys) ∙ sym (append-assoc (cellText x) (cellsText xs) (cellsText ys))
+
+pub cells-none : (xs : List ℕ) → [] ≡ cellsText (take 0 xs)
+unfolding cellsText
+cells-none xs = refl
+
+module _ (xs : List ℕ) (i : ℕ) (l : i < length xs) where
+  pub cells-more : cellsText (take i xs) ++ cellText (getD xs i 0) ≡ cellsText (take (i + 1) xs)
+  unfolding cellsText
+  cells-more =
+      ap (λ (r : List ℕ). cellsText (take i xs) ++ r) (sym (append-nil (cellText (getD xs i 0))))
+      ∙ sym (cells-append (take i xs) (getD xs i 0 ∷ []))
+      ∙ ap cellsText (sym (take-suc xs i 0 l) ∙ ap (λ (k : ℕ). take k xs) (sym (add-one i)))
+
+  -- room for all the cells is room for one cell more
+  pub room-cells : (at : ℕ) (o : List ℕ) → Room at (cellsText xs) o → Room at (cellsText (take i xs) ++ cellText (getD xs i 0)) o
+  room-cells at o r =
+      let all : cellsText xs ≡ cellsText (take (i + 1) xs) ++ cellsText (drop (i + 1) xs) =
+      ap cellsText (sym (take-append-drop (i + 1) xs)) ∙ cells-append (take (i + 1) xs) (drop (i + 1) xs) in
+      omega (arith, r, ap length all, length-append (cellsText (take (i + 1) xs)) (cellsText (drop (i + 1) xs)), ap length cells-more)
+
+-- ---- how long the text is at most
+
+numbered-short : (w : List ℕ) (x : ℕ) → x < 2 ^ 64 → length (numbered w x) ≤ length w + 20
+unfolding numbered
+numbered-short w x l = omega (arith, length-append w (decimal x), decimal-short 19 x (omega arith))
+
+first-short : (a : Answer) → a .number < 2 ^ 64 → a .place < 2 ^ 64 → a .tried < 2 ^ 64 → length (firstLine a) ≤ 82
+unfolding firstLine
+first-short a p q r =
+    let x = numbered answer-word (a .number) in
+    let y = numbered place-word (a .place) in
+    let z = numbered tried-word (a .tried) in
+    omega (arith, length-append (x ++ y ++ z) (line-feed ∷ []), length-append (x ++ y) z, length-append x y, numbered-short answer-word (a .number) p, numbered-short place-word (a .place) q, numbered-short tried-word (a .tried) r)
+
+cell-short : (x : ℕ) → x < 256 → length (cellText x) ≤ 4
+unfolding cellText
+cell-short x l = go (ℕ-discrete x 255)
+  where
+    go : Dec (x ≡ 255) → length ((space ∷ []) ++ valueText x) ≤ 4
+    go (yes e) = omega (arith, length-append (space ∷ []) (valueText x), ap length (value-none x e))
+    go (no f) = omega (arith, length-append (space ∷ []) (valueText x), ap length (value-some x x f refl), decimal-short 2 x (omega arith))
+
+cells-short : (xs : List ℕ) → ((i : ℕ) → i < length xs → getD xs i 0 < 256) → length (cellsText xs) ≤ 4 * length xs
+unfolding cellsText
+cells-short [] f = omega arith
+cells-short (x ∷ xs) f =
+    let ih = cells-short xs (λ i l. f (suc i) (omega arith)) in
+    omega (arith, length-append (cellText x) (cellsText xs), cell-short x (f 0 (omega arith)), ih)
+
+line-short : (w xs : List ℕ) → ((i : ℕ) → i < length xs → getD xs i 0 < 256) → length (line w xs) ≤ length w + 4 * length xs + 1
+unfolding line
+line-short w xs f =
+    omega (arith, length-append (w ++ cellsText xs) (line-feed ∷ []), length-append w (cellsText xs), cells-short xs f)
+
+getD-front : (v : ℕ) (m : List ℕ) → ((i : ℕ) → getD m i 0 < 256) → (i : ℕ) → i < length (take v m) → getD (take v m) i 0 < 256
+getD-front v m f i l =
+    let e = getD-take v m i 0 (omega (arith, length-take v m)) in
+    omega (arith, f i)
+
+getD-behind : (v n : ℕ) (m : List ℕ) → ((i : ℕ) → getD m i 0 < 256) → (i : ℕ) → i < length (take n (drop v m)) → getD (take n (drop v m)) i 0 < 256
+getD-behind v n m f i l =
+    let e = getD-take n (drop v m) i 0 (omega (arith, length-take n (drop v m))) ∙ getD-drop v m i 0 in
+    omega (arith, f (v + i))
+
+pub room-text : (a : Answer) (v n : ℕ) (m o : List ℕ) → a .number < 2 ^ 64 → a .place < 2 ^ 64 → a .tried < 2 ^ 64 → v ≤ 8 → n ≤ 8
+    → ((i : ℕ) → getD m i 0 < 256) → 256 ≤ length o → Room 0 (firstLine a ++ modelText v n m) o
+unfolding modelText
+room-text a v n m o p q r k j f l =
+    omega (
+      arith,
+      length-append (firstLine a) (stackLine v m ++ heapLine v n m),
+      length-append (stackLine v m) (heapLine v n m),
+      first-short a p q r,
+      line-short stack-word (take v m) (getD-front v m f),
+      line-short heap-word (take n (drop v m)) (getD-behind v n m f),
+      length-take v m,
+      length-take n (drop v m),
+    )
+
+-- ---- the whole
+
+-- a model's lines, as the code cuts the model
+pub model-cut : (v n : ℕ) (m : List ℕ) → line stack-word (take (v - 0) m) ++ line heap-word (take (v + n - v) (drop v m)) ≡ modelText v n m
+unfolding modelText
+model-cut v n m =
+    let p : v - 0 ≡ v = omega arith in
+    let q : v + n - v ≡ n = omega arith in
+    ap₂ (λ (i j : ℕ). line stack-word (take i m) ++ line heap-word (take j (drop v m))) p q
+
+module _ (a : Answer) (v n : ℕ) (m : List ℕ) where
+  pub text-no : ¬ (a .number ≡ yes-number) → firstLine a ≡ textOf a v n m
+  unfolding textOf
+  text-no f = rw (ne-eqb (a .number) yes-number f)
+
+  pub text-yes : a .number ≡ yes-number → firstLine a ++ modelText v n m ≡ textOf a v n m
+  unfolding textOf
+  text-yes e = rw (eq-eqb (a .number) yes-number e)
