@@ -4,10 +4,10 @@ use mathlib.Core.List.{List}
 use Prim.Native.Nat.{ℕ, _+_, _<_, _≤_}
 use native.Mathlib.Omega.{arith}
 use lib.ListN.{length, getD}
+use Rattle.logic.specs.Agree.{heap-more}
 use Rattle.logic.specs.Heap.{Map, Heap}
 use Rattle.logic.specs.Tests.{inPart}
 use Rattle.cells.specs.Cells.{cells}
-use Rattle.cells.specs.Heaps.{heap-more}
 use Rattle.rows.specs.Assignment.{on}
 use Rattle.rows.specs.OnSet.{on-heap}
 use Rattle.assign.specs.declared.Setting.{Setting}

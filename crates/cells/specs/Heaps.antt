@@ -3,14 +3,14 @@
 use mathlib.Core.Path.{_≡_, refl, sym, _∙_, ap, fun-ext}
 use mathlib.Core.Bool.{Bool, true, false}
 use mathlib.Core.Logic.{_⊎_, inl, inr}
-use Prim.Native.Nat.{ℕ, suc, _<_, _≤_}
+use Prim.Native.Nat.{ℕ, suc, _<_}
 use native.Mathlib.Nat.{mod-eq-of-lt}
 use native.Mathlib.Decide.{ℕ-discrete}
 use native.Mathlib.Omega.{arith}
 use lib.Dec.{eqb}
 use lib.Bits.{bitAnd, bitOr, bitXor, and-zero-r, or-zero-r, xor-zero-r, xor-self, and-mask}
 use borrow.Author.Tests.{eq-eqb, ne-eqb}
-use Rattle.logic.specs.Heap.{Map, Heap, Empty, Parts}
+use Rattle.logic.specs.Heap.{Map, Empty, Parts}
 use Rattle.logic.specs.Holds.{Points}
 use Rattle.logic.specs.Tests.{pick, inPart, part, rest, union, without}
 use Rattle.logic.specs.Reflect.{Is, false-true, is-iff, is-eq, same-of-not}
@@ -43,10 +43,6 @@ is-no-cell a b w e =
   where
     some : suc b ≡ 0 → ⊥
     some z = omega arith
-
--- a heap over few locations is one over more
-pub heap-more : (n m : ℕ) (h : Map) → n ≤ m → Heap n h → Heap m h
-heap-more n m h l k = record { nil = k .nil; past = λ ℓ p. k .past ℓ (omega arith); low = λ ℓ. omega (arith, k .low ℓ) }
 
 -- the cell at x taken out
 pub cut-is : (w x r : ℕ) → Placed (cells w x) x r → cells (bitXor w r) ≡ without x (cells w)

@@ -10,12 +10,11 @@ use borrow.Author.Tests.{eq-eqb, ne-eqb}
 use Rattle.logic.specs.Heap.{Map, Heap, Empty}
 use Rattle.logic.specs.Holds.{Segment}
 use Rattle.logic.specs.Tests.{empty, without, chain}
-use Rattle.logic.specs.Reflect.{Is}
+use Rattle.logic.specs.Reflect.{is-same, Is}
 use Rattle.logic.specs.Agree.{is-empty}
 use Rattle.logic.specs.Chains.{without-heap, is-segment}
 use Rattle.cells.specs.Cells.{most, cells, Placed}
 use Rattle.cells.specs.Loops.{Walk}
-use Rattle.cells.specs.Sets.{is-same}
 use Rattle.cells.specs.Packing.{cells-nil}
 use Rattle.cells.specs.Heaps.{cut-is}
 

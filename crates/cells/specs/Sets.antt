@@ -12,12 +12,6 @@ use Rattle.logic.specs.Digits.{digit-lt}
 use Rattle.logic.specs.Reflect.{Is, false-true, is-iff, is-eq}
 use Rattle.cells.specs.Bits.{digit-zero, digit-past, same-digits, digit-and, digit-or, digit-xor, digit-placed}
 
--- two tests of one fact are equal
-pub is-same : (a b : Bool) {P : Type 0} → Is a P → Is b P → a ≡ b
-is-same true b i j = sym (j .from (i .to refl))
-is-same false true i j = i .from (j .to refl)
-is-same false false i j = refl
-
 two-pos : 0 < 2
 two-pos = omega arith
 

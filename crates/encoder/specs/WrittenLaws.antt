@@ -70,10 +70,6 @@ puts-puts {s} {t} {u} {r} {i} {j} {r′} {i′} {j′} {xs} {ys} {o} {o₁} {o�
 pub puts-as : {s t : Next} {r i j r′ i′ j′ : ℕ} {xs ys o now : List ℕ} → r ≡ r′ → i ≡ i′ → j ≡ j′ → xs ≡ ys → Puts s r i j xs t o now → Puts s r′ i′ j′ ys t o now
 puts-as a b c d p = rw (← a, ← b, ← c, ← d) p
 
--- the output stays as long as it was
-pub puts-long : {s t : Next} {r i j : ℕ} {bs o now : List ℕ} → length bs ≡ 10 * r → 10 * (s .row + r) ≤ length o → Puts s r i j bs t o now → length now ≡ length o
-puts-long {s} {t} {r} {i} {j} {bs} {o} {now} e h p = ap length (p .bytes) ∙ put-length (10 * s .row) bs o (omega arith)
-
 -- room for fewer rows
 pub space-less : {s : Next} {r : ℕ} {o : List ℕ} (q : ℕ) → Space s r o → q ≤ r → Space s q o
 space-less q h l = record { out = omega (arith, h .out); row = omega (arith, h .row) }

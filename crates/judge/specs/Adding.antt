@@ -11,10 +11,9 @@ use lib.Bits.{bitOr}
 use borrow.Author.Tests.{eq-eqb, ne-eqb}
 use Rattle.logic.specs.Heap.{Map, Heap, StronglyDisjoint}
 use Rattle.logic.specs.Tests.{andb, any, inPart, union, septAt}
-use Rattle.logic.specs.Reflect.{Is, false-true, is-iff, is-self, is-and, same-of-not}
+use Rattle.logic.specs.Reflect.{is-same, Is, false-true, is-iff, is-self, is-and, same-of-not}
 use Rattle.logic.specs.Agree.{union-heap, union-parts, union-is, is-sept}
 use Rattle.cells.specs.Cells.{cells, Placed, Unnamed, Touches, Met, Source, SourceBelow, Target}
-use Rattle.cells.specs.Sets.{is-same}
 use Rattle.cells.specs.Packing.{cells-zero}
 use Rattle.cells.specs.Heaps.{put-at, or-union}
 use Rattle.cells.specs.Tables.{touches-locs, locs-touches, touches-nothing, disjoint-meets, meets-disjoint}

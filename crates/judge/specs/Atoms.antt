@@ -9,9 +9,8 @@ use Rattle.logic.specs.Formula.{Form}
 use Rattle.logic.specs.Holds.{Points, Segment, Holds}
 use Rattle.logic.specs.Table.{opOf, operandOf, atomOf, tree}
 use Rattle.logic.specs.TruthHolds.{truth-holds}
-use Rattle.logic.specs.Reflect.{Is, false-true, is-iff}
+use Rattle.logic.specs.Reflect.{is-same, Is, false-true, is-iff}
 use Rattle.cells.specs.Cells.{most}
-use Rattle.cells.specs.Sets.{is-same}
 use Rattle.judge.specs.Setting.{varsOf, locsOf, pathOf, stackOf, Ready, truthAt}
 use Rattle.judge.specs.Nodes.{atom-operands, tree-atom}
 

@@ -12,10 +12,10 @@ use lib.Bits.{bitAnd, bitXor, and-le-r, and-zero-l}
 use borrow.Author.Tests.{lt-ltb, ltb-true}
 use Rattle.logic.specs.Heap.{Map, Heap}
 use Rattle.logic.specs.Tests.{andb, orb, any, inPart, allocated, within, apart, sepAt}
-use Rattle.logic.specs.Reflect.{Is, false-true, is-self, is-all, is-any}
+use Rattle.logic.specs.Reflect.{is-same, Is, false-true, is-self, is-all, is-any}
 use Rattle.logic.specs.Agree.{is-apart, first-heap, second-heap}
 use Rattle.cells.specs.Cells.{most, full, cells, Sub, Spread, Taken, Unnamed, Tabled, Clear}
-use Rattle.cells.specs.Sets.{is-same, in-and, in-past, same-set, set-small}
+use Rattle.cells.specs.Sets.{in-and, in-past, same-set, set-small}
 use Rattle.cells.specs.Subsets.{next-least, next-above, and-sub}
 use Rattle.cells.specs.Heaps.{part-is, rest-is, part-rest}
 use Rattle.cells.specs.Tables.{part-tabled, rest-tabled, is-disjoint}

@@ -13,12 +13,12 @@ use borrow.Author.Tests.{lt-ltb, le-ltb}
 use Rattle.logic.specs.declared.Answer.{Answer}
 use Rattle.logic.specs.Numbers.{yes-number, no-number}
 use Rattle.logic.specs.Checks.{Passes}
-use Rattle.logic.specs.Heap.{Map, Stack, Heap}
+use Rattle.logic.specs.Heap.{Map, Stack}
 use Rattle.logic.specs.Formula.{Form}
 use Rattle.logic.specs.Formula.Form.{same, diff, pts, ls, conj, disj, but, neg, sep, sept}
 use Rattle.logic.specs.Holds.{Holds}
 use Rattle.logic.specs.Tests.{pick, heapOf}
-use Rattle.logic.specs.Agree.{heapOf-heap}
+use Rattle.logic.specs.Agree.{heap-more, heapOf-heap}
 use Rattle.logic.specs.Table.{tree}
 use Rattle.logic.specs.Book.{bookFormula, varsOf, locsOf, pathOf, root}
 use Rattle.logic.specs.Model.{stackIn, heapIn, digitOf, modelChecks, Fits, FitsBook}
@@ -28,9 +28,6 @@ use Rattle.logic.specs.Search.{CandidateFits, FitsAt, totalOf, Outcome, found, 
 use Rattle.logic.specs.RefusalLaws.{searches-answered}
 use Rattle.laws.specs.Negations.{NoSeptraction, NoneUnderNegation}
 use Rattle.laws.specs.Wider.{Wider, widened}
-
-pub heap-more : (n n′ : ℕ) (h : Map) → n ≤ n′ → Heap n h → Heap n′ h
-heap-more n n′ h l k = record { nil = k .nil; past = λ ℓ q. k .past ℓ (omega arith); low = λ ℓ. omega (arith, k .low ℓ) }
 
 pub stack-more : (v n n′ : ℕ) (s : Map) → n ≤ n′ → Stack v n s → Stack v n′ s
 stack-more v n n′ s l k = record { nil = k .nil; low = λ x. omega (arith, k .low x); past = k .past }

@@ -27,6 +27,10 @@ heap-sub n g h p k =
       low = λ ℓ. ⊎-elim (λ (e : g ℓ ≡ h ℓ). omega (arith, k .low ℓ)) (λ (e : g ℓ ≡ 0). omega arith) (p ℓ);
     }
 
+-- a heap over fewer locations is one over more
+pub heap-more : (n n′ : ℕ) (h : Map) → n ≤ n′ → Heap n h → Heap n′ h
+heap-more n n′ h l k = record { nil = k .nil; past = λ ℓ q. k .past ℓ (omega arith); low = λ ℓ. omega (arith, k .low ℓ) }
+
 -- an allocated location is one of 1 to n
 pub allocated-low : (n : ℕ) (h : Map) (ℓ : ℕ) → Heap n h → Allocated h ℓ → ℓ ≤ n
 allocated-low n h ℓ k a = go (decLe ℓ n)

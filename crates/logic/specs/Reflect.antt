@@ -61,6 +61,12 @@ module _ (f : ℕ → Bool) (P : ℕ → Type 0) where
       (⊎-elim (λ q. (q .0, omega (arith, q .1), q .2)) (λ q. (k, omega arith, q)))
       (λ q. ⊎-elim (λ (e : q .0 ≡ k). inr (subst P e (q .2))) (λ (m : q .0 < k). inl (q .0, m, q .2)) (eq-or-lt-of-le (le-of-suc-le-suc (q .1))))
 
+-- two tests of one fact are equal
+pub is-same : (a b : Bool) {P : Type 0} → Is a P → Is b P → a ≡ b
+is-same true b i j = sym (j .from (i .to refl))
+is-same false true i j = i .from (j .to refl)
+is-same false false i j = refl
+
 -- where the test does not pass, the fact does not hold
 pub fails : (b : Bool) {P : Type 0} → Is b P → b ≡ false → ¬ P
 fails b i e p = false-true (sym e ∙ i .from p)

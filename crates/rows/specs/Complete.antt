@@ -1,9 +1,8 @@
 -- Each model that fits comes from a satisfying assignment: the truth of an encodable formula gives its condition, for some
 -- choice of the new arrays and sets. New symbols never stand under a NOT, so the choice passes through. Assumes nothing.
-use mathlib.Core.Path.{_≡_, refl, sym, subst, _∙_, ap}
-use mathlib.Core.Bool.{Bool}
-use mathlib.Core.Logic.{_⊎_, inl, inr, ⊎-elim}
-use Prim.Native.Nat.{ℕ, _+_, _<_, _≤_}
+use mathlib.Core.Path.{_≡_, sym, _∙_}
+use mathlib.Core.Logic.{inl, inr, ⊎-elim}
+use Prim.Native.Nat.{ℕ, _+_, _<_}
 use native.Mathlib.Omega.{arith}
 use Rattle.logic.specs.Heap.{Map, Heap, StronglyDisjoint, Parts}
 use Rattle.logic.specs.Tests.{allocated}
@@ -12,12 +11,11 @@ use Rattle.logic.specs.Formula.{Form}
 use Rattle.logic.specs.Formula.Form.{same, diff, pts, ls, conj, disj, but, neg, sep, sept}
 use Rattle.logic.specs.Holds.{Holds}
 use Rattle.rows.specs.Assignment.{Set, Assignment, InRange, on}
-use Rattle.rows.specs.Meaning.{Splits, Apart, Same}
 use Rattle.rows.specs.Table.{arraysIn, setsIn, Flat, Encodable}
 use Rattle.rows.specs.Condition.{Condition}
 use Rattle.rows.specs.OnSet.{on-heap}
 use Rattle.rows.specs.PartSets.{domain-on, domain-of, not-allocated, parts-splits, first-part, second-part, parts-apart, values, values-low, values-alone, added-part, whole, added-same, added-apart, whole-heap}
-use Rattle.rows.specs.Symbols.{Agree, agree-less, agree-refl, agree-trans, condition-kept, withSet, withArray, NewSet, NewArray, new-set, new-array}
+use Rattle.rows.specs.Symbols.{Agree, agree-less, agree-refl, agree-trans, condition-kept, withSet, withArray, new-set, new-array}
 use Rattle.rows.specs.Sound.{flat}
 
 module _ (v n p : ℕ) where

@@ -1,11 +1,10 @@
 -- The encoding's theorem, both ways: the satisfying assignments of a formula's table have exactly the models that fit it.
 -- Assumes nothing.
-use mathlib.Core.Path.{_≡_, refl, sym, ap₂, _∙_}
+use mathlib.Core.Path.{_≡_, sym, ap₂, _∙_}
 use Prim.Native.Nat.{ℕ}
 use native.Mathlib.Omega.{arith}
 use Rattle.logic.specs.Heap.{Map, Stack, Heap}
 use Rattle.logic.specs.Formula.{Form}
-use Rattle.logic.specs.Holds.{Holds}
 use Rattle.logic.specs.Model.{Fits}
 use Rattle.logic.specs.Tests.{allocated}
 use Rattle.rows.specs.Assignment.{Assignment, InRange, on, modelHeap}

@@ -1,14 +1,13 @@
 -- Two parts of a heap, as sets and an array: what SPLIT, APART and SAME say of them. Assumes nothing.
-use mathlib.Core.Path.{_≡_, refl, sym, subst, subst₂, _∙_, ap, fun-ext}
-use mathlib.Core.Bool.{Bool, true, false}
+use mathlib.Core.Path.{_≡_, sym, subst, subst₂, _∙_, ap, fun-ext}
+use mathlib.Core.Bool.{false}
 use mathlib.Core.Logic.{_⊎_, inl, inr, ⊎-elim, _↔_}
 use Prim.Native.Nat.{ℕ, suc, pred, _<_, _≤_}
 use native.Mathlib.Decide.{ℕ-discrete}
 use native.Mathlib.Omega.{arith}
-use lib.Dec.{eqb}
-use borrow.Author.Tests.{eq-eqb, ne-eqb}
+use borrow.Author.Tests.{eq-eqb}
 use Rattle.logic.specs.Heap.{Map, Heap, Allocated, StronglyDisjoint, Parts}
-use Rattle.logic.specs.Tests.{allocated, union}
+use Rattle.logic.specs.Tests.{allocated}
 use Rattle.logic.specs.Agree.{is-allocated, union-heap, union-is}
 use Rattle.rows.specs.Assignment.{Set, Member, on}
 use Rattle.rows.specs.Meaning.{Splits, Apart, Same}

@@ -1,18 +1,27 @@
 -- What is printed for a book is one text, and how it comes about. Assumes nothing.
 use mathlib.Core.Path.{_≡_, sym, ap, ap₂, _∙_}
 use mathlib.Core.List.{List, _++_}
-use Prim.Native.Nat.{ℕ, _≤_}
+use mathlib.Core.Logic.{⊎-elim}
+use Prim.Native.Nat.{ℕ, _+_, _-_, _≤_}
 use native.Mathlib.Omega.{arith}
-use lib.ListN.{length, take, drop, getD, length-append}
+use lib.ListN.{length, take, drop, getD, length-append, List·getD-append}
 use lib.Seq.{take-at}
 use Rattle.logic.specs.declared.Answer.{Answer}
 use Rattle.logic.specs.Numbers.{yes-number}
 use Rattle.logic.specs.Book.{stretch, varsOf, locsOf, Whole}
 use Rattle.logic.specs.BookLaws.{accepted-whole}
+use Rattle.logic.specs.Checks.{Passes}
+use Rattle.logic.specs.CheckLaws.{passes-at}
+use Rattle.logic.specs.Tests.{heapOf}
+use Rattle.logic.specs.Agree.{heapOf-heap}
+use Rattle.logic.specs.Model.{byteChecks}
+use Rattle.logic.specs.Candidates.{stackOf, modelOf}
+use Rattle.logic.specs.CandidateLaws.{stackOf-stack, model-long, model-in-range}
 use Rattle.logic.specs.Search.{Searches}
 use Rattle.logic.specs.SearchLaws.{searches-single}
 use Rattle.logic.specs.RefusalLaws.{searches-answered}
 use Rattle.text.specs.Text.{textOf}
+use Rattle.text.specs.Puts.{Locations}
 use Rattle.text.specs.TextLaws.{text-no}
 use Rattle.shape.specs.Prints.{budget, blank, Prints}
 
@@ -25,6 +34,20 @@ module _ (s : List ℕ) (a : Answer) (m : List ℕ) (q : Searches s budget blank
   -- a model that was found is one of an accepted book
   pub found-whole : a .number ≡ yes-number → Whole s
   found-whole e = accepted-whole s (searches-answered s budget blank a m q (omega arith) .accepted)
+
+  -- the stack's bytes of a model that was found are locations
+  pub found-locations : a .number ≡ yes-number → Locations (varsOf s) m
+  unfolding Passes
+  found-locations e i l =
+      let v = varsOf s in
+      let n = locsOf s in
+      let k = a .tried - 1 in
+      let bytes = modelOf v n k in
+      let range = model-in-range v n (stackOf v n k) (heapOf n k) (stackOf-stack v n k) (heapOf-heap n k) in
+      let long = model-long v n (stackOf v n k) (heapOf n k) in
+      let same : getD m i 0 ≡ getD bytes i 0 = ap (λ (r : List ℕ). getD r i 0) (q .wrote e) ∙ List·getD-append bytes (drop (v + n) blank) 0 i (omega arith) in
+      let few = found-whole e .bounds .locs in
+      ⊎-elim (λ x. omega arith) (λ x. absurd (omega (arith, x .0))) (passes-at (byteChecks v n bytes) (v + n) (range .1) i (omega arith) .0)
 
   -- what stands at the front of the output, by its length
   pub prints-front : (v n : ℕ) → textOf a v n m ≡ textOf a (varsOf s) (locsOf s) m → (o : List ℕ) (r : ℕ) (o′ : List ℕ)

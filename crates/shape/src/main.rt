@@ -6,7 +6,7 @@ ghost use lib.ListN.{length, take};
 ghost use Rattle.shape.specs.Prints.{Prints};
 
 // What is printed for the book, to the front of the output; gives back its length.
-fn print(book: &[u8], out: &mut [u8]) -> usize
+fn put_text(book: &[u8], out: &mut [u8]) -> usize
     requires { ⌜ 256 ≤ length (now out) ⌝ }
     ensures { λ r. ⌜ Prints (now (book .entry)) (take r (now (out .exit))) × (r ≤ length (now (out .exit))) ⌝ }
 {
@@ -24,6 +24,6 @@ fn main() {
     let mut input = [0u8; 207];
     let count = io::read_full(0, &mut input);
     let mut out = [0u8; 256];
-    let size = print(&input[..count], &mut out);
+    let size = put_text(&input[..count], &mut out);
     io::write_all(1, &out[..size]);
 }

@@ -1,4 +1,5 @@
 pub mod Text
+pub mod Printed
 pub mod Puts
 pub mod PutsLaws
 pub mod TextLaws

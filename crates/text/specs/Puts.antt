@@ -1,8 +1,9 @@
--- Bytes written into an output from a place on, as the writers state it. Assumes nothing: these are definitions.
+-- Bytes written into an output from a place on, as the writers state it, and the model that they take. Assumes nothing: these
+-- are definitions.
 use mathlib.Core.Path.{_≡_}
 use mathlib.Core.List.{List, _++_}
-use Prim.Native.Nat.{ℕ, _+_, _≤_}
-use lib.ListN.{length, take, drop}
+use Prim.Native.Nat.{ℕ, _+_, _<_, _≤_}
+use lib.ListN.{length, take, drop, getD}
 
 -- the output has room for the bytes from `at` on
 abbrev pub Room : ℕ → List ℕ → List ℕ → Type 0
@@ -13,3 +14,7 @@ pub record Puts (at : ℕ) (bytes out out′ : List ℕ) (next : ℕ) : Type 0 w
   pub room : Room at bytes out
   pub wrote : out′ ≡ take at out ++ bytes ++ drop (at + length bytes) out
   pub after : next ≡ at + length bytes
+
+-- the model's first v bytes are locations: none is 255
+abbrev pub Locations : ℕ → List ℕ → Type 0
+Locations v model = (i : ℕ) → i < v → getD model i 0 < 255

@@ -55,30 +55,29 @@ numbered w x = w ++ decimal x
 unfoldable pub firstLine : Answer → List ℕ
 firstLine a = numbered answer-word (a .number) ++ numbered place-word (a .place) ++ numbered tried-word (a .tried) ++ (line-feed ∷ [])
 
--- "each cell's value or `-`": a model's byte 255 is an unallocated cell. No location is 255, so that the stack's bytes are
--- written in the same way
-unfoldable pub valueText : ℕ → List ℕ
-valueText x = choose (eqb x 255) (45 ∷ []) (decimal x)
+-- "one space before each": what f writes for each of the bytes
+unfoldable pub spaced : (ℕ → List ℕ) → ℕ → List ℕ
+spaced f x = (space ∷ []) ++ f x
 
--- "one space before each"
-unfoldable pub cellText : ℕ → List ℕ
-cellText x = (space ∷ []) ++ valueText x
-
-unfoldable pub cellsText : List ℕ → List ℕ
-cellsText [] = []
-cellsText (x ∷ xs) = cellText x ++ cellsText xs
+unfoldable pub listed : (ℕ → List ℕ) → List ℕ → List ℕ
+listed f [] = []
+listed f (x ∷ xs) = spaced f x ++ listed f xs
 
 -- "after the word, one space before each". "With v = 0 the line is just `stack`, with n = 0 just `heap`."
-unfoldable pub line : List ℕ → List ℕ → List ℕ
-line w xs = w ++ cellsText xs ++ (line-feed ∷ [])
+unfoldable pub line : List ℕ → (ℕ → List ℕ) → List ℕ → List ℕ
+line w f xs = w ++ listed f xs ++ (line-feed ∷ [])
 
 -- "The stack line has each variable's location": the model's first v bytes
 abbrev pub stackLine : ℕ → List ℕ → List ℕ
-stackLine v model = line stack-word (take v model)
+stackLine v model = line stack-word decimal (take v model)
 
--- "the heap line each cell's value": the n bytes after them
+-- "each cell's value or `-`", 255 being an unallocated cell
+unfoldable pub valueText : ℕ → List ℕ
+valueText x = choose (eqb x 255) (45 ∷ []) (decimal x)
+
+-- "the heap line each cell's value or `-`": the n bytes after them
 abbrev pub heapLine : ℕ → ℕ → List ℕ → List ℕ
-heapLine v n model = line heap-word (take n (drop v model))
+heapLine v n model = line heap-word valueText (take n (drop v model))
 
 -- both lines of a model over v variables and n locations
 unfoldable pub modelText : ℕ → ℕ → List ℕ → List ℕ

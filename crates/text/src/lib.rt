@@ -6,8 +6,8 @@ ghost use mathlib.Core.Path.{_≡_};
 ghost use mathlib.Core.List.{[], _∷_, _++_};
 ghost use Prim.Native.Nat.{_+_, _<_, _≤_};
 ghost use lib.ListN.{length, drop};
-ghost use Rattle.text.specs.Text.{figure, decimal, numbered, firstLine, valueText, cellText, cellsText, line, modelText, textOf};
-ghost use Rattle.text.specs.Puts.{Puts, Room};
+ghost use Rattle.text.specs.Text.{figure, decimal, numbered, firstLine, spaced, listed, line, valueText, modelText, textOf};
+ghost use Rattle.text.specs.Puts.{Puts, Room, Locations};
 
 fn put(out: &mut [u8], at: usize, x: u8) -> usize
     requires { ⌜ Room at (x ∷ []) (now out) ⌝ }
@@ -61,10 +61,10 @@ fn put_answer(out: &mut [u8], a: Answer) -> usize
     requires { ⌜ Room 0 (firstLine a) (now out) ⌝ }
     ensures { λ r. ⌜ Puts 0 (firstLine a) (now (out .entry)) (now (out .exit)) r ⌝ }
 {
-    let number = put_number(out, 0, b"answer ", a.number);
-    let place = put_number(out, number, b" place ", a.place);
-    let tried = put_number(out, place, b" tried ", a.tried);
-    put(out, tried, b'\n')
+    let after_number = put_number(out, 0, b"answer ", a.number);
+    let after_place = put_number(out, after_number, b" place ", a.place);
+    let after_tried = put_number(out, after_place, b" tried ", a.tried);
+    put(out, after_tried, b'\n')
 }
 
 // A location or a value, or '-' for a location that is not allocated.
@@ -79,16 +79,16 @@ fn put_value(out: &mut [u8], at: usize, x: u8) -> usize
 }
 
 fn put_cell(out: &mut [u8], at: usize, x: u8) -> usize
-    requires { ⌜ Room at (cellText x) (now out) ⌝ }
-    ensures { λ r. ⌜ Puts at (cellText x) (now (out .entry)) (now (out .exit)) r ⌝ }
+    requires { ⌜ Room at (spaced valueText x) (now out) ⌝ }
+    ensures { λ r. ⌜ Puts at (spaced valueText x) (now (out .entry)) (now (out .exit)) r ⌝ }
 {
     let after = put(out, at, b' ');
     put_value(out, after, x)
 }
 
 fn put_cells(out: &mut [u8], at: usize, cells: &[u8]) -> usize
-    requires { ⌜ Room at (cellsText (now cells)) (now out) ⌝ }
-    ensures { λ r. ⌜ Puts at (cellsText (now (cells .entry))) (now (out .entry)) (now (out .exit)) r ⌝ }
+    requires { ⌜ Room at (listed valueText (now cells)) (now out) ⌝ }
+    ensures { λ r. ⌜ Puts at (listed valueText (now (cells .entry))) (now (out .entry)) (now (out .exit)) r ⌝ }
 {
     let mut next = at;
     let mut i = 0;
@@ -100,8 +100,8 @@ fn put_cells(out: &mut [u8], at: usize, cells: &[u8]) -> usize
 }
 
 fn put_line(out: &mut [u8], at: usize, word: &[u8], cells: &[u8]) -> usize
-    requires { ⌜ Room at (line (now word) (now cells)) (now out) ⌝ }
-    ensures { λ r. ⌜ Puts at (line (now (word .entry)) (now (cells .entry))) (now (out .entry)) (now (out .exit)) r ⌝ }
+    requires { ⌜ Room at (line (now word) valueText (now cells)) (now out) ⌝ }
+    ensures { λ r. ⌜ Puts at (line (now (word .entry)) valueText (now (cells .entry))) (now (out .entry)) (now (out .exit)) r ⌝ }
 {
     let after = put_word(out, at, word);
     let end = put_cells(out, after, cells);
@@ -110,7 +110,7 @@ fn put_line(out: &mut [u8], at: usize, word: &[u8], cells: &[u8]) -> usize
 
 // The stack line and the heap line of a model over v variables and n locations.
 fn put_model(out: &mut [u8], at: usize, model: &[u8], v: usize, n: usize) -> usize
-    requires { ⌜ (v + n ≤ length (now model)) × Room at (modelText v n (now model)) (now out) ⌝ }
+    requires { ⌜ (v + n ≤ length (now model)) × Locations v (now model) × Room at (modelText v n (now model)) (now out) ⌝ }
     ensures { λ r. ⌜ Puts at (modelText v n (now (model .entry))) (now (out .entry)) (now (out .exit)) r ⌝ }
 {
     let end = v + n;
@@ -121,7 +121,7 @@ fn put_model(out: &mut [u8], at: usize, model: &[u8], v: usize, n: usize) -> usi
 // Writes what is printed for the answer to the front of the output, and gives back its length. The model is looked at only
 // with number 0.
 pub fn text(a: Answer, model: &[u8], v: usize, n: usize, out: &mut [u8]) -> usize
-    requires { ⌜ (v ≤ 8) × (n ≤ 8) × (v + n ≤ length (now model)) × (256 ≤ length (now out)) ⌝ }
+    requires { ⌜ (v ≤ 8) × (n ≤ 8) × (v + n ≤ length (now model)) × Locations v (now model) × (256 ≤ length (now out)) ⌝ }
     ensures { λ r. ⌜ r ≡ length (textOf a v n (now (model .entry))) ⌝ }
     ensures { λ r. ⌜ now (out .exit) ≡ textOf a v n (now (model .entry)) ++ drop (length (textOf a v n (now (model .entry)))) (now (out .entry)) ⌝ }
 {

@@ -1,11 +1,7 @@
 -- `book::once` meets its contract. Assumes nothing.
 use borrow.Author.Needs.{needs}
-use mathlib.Core.Path.{_≡_, _∙_, sym, ap}
-use Prim.Native.Nat.{ℕ}
-use native.Mathlib.Omega.{arith}
-use lib.Dec.{eqb}
+use mathlib.Core.Path.{_∙_, sym}
 use borrow.Author.Tests.{eq-eqb, ne-eqb}
-use Rattle.logic.specs.Tests.{pick}
 use Rattle.book.proofs.once.Statement.{statement}
 use Rattle.book.proofs.once.Tie as tie
 

@@ -8,9 +8,9 @@ use borrow.Author.Needs.{needs}
 use borrow.Author.Tests.{not-true, not-false}
 use borrow.Fn.Kinds.{In}
 use borrow.Fn.PlainCycle.{Measures, is, falls, and}
+use Rattle.logic.specs.Agree.{heap-more}
 use Rattle.logic.specs.Reflect.{fails}
 use Rattle.cells.specs.Cells.{cells, SourceBelow}
-use Rattle.cells.specs.Heaps.{heap-more}
 use Rattle.cells.proofs.is_target.Reads as is-target-reads
 use Rattle.cells.proofs.met.Reads as met-reads
 use Rattle.cells.proofs.parts_apart.Reads as parts-apart-reads

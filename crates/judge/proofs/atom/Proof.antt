@@ -2,8 +2,8 @@
 use mathlib.Core.Path.{refl, _∙_, ap}
 use native.Mathlib.Omega.{arith}
 use borrow.Author.Needs.{needs}
+use Rattle.logic.specs.Agree.{heap-more}
 use Rattle.cells.specs.Cells.{cells}
-use Rattle.cells.specs.Heaps.{heap-more}
 use Rattle.judge.specs.Atoms.{variables, locations, same-there, same-elsewhere, diff-there, diff-elsewhere, points-to, list-from}
 use Rattle.judge.proofs.atom.Statement.{statement}
 use Rattle.judge.proofs.atom.Tie as tie

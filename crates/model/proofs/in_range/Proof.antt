@@ -7,7 +7,7 @@ use native.Mathlib.Numerals.{add-one}
 use native.Mathlib.Omega.{arith}
 use borrow.Author.Tests.{not-true, not-false}
 use Rattle.logic.specs.declared.Answer.{Answer}
-use Rattle.logic.specs.Checks.{Checks, done, check, upto, Passes, Answers}
+use Rattle.logic.specs.Checks.{upto, Passes, Answers}
 use Rattle.logic.specs.CheckLaws.{Yes, passes-none, passes-more, upto-refused, answers-passed}
 use Rattle.logic.specs.Reflect.{fails}
 use Rattle.logic.specs.Model.{byteChecks}

@@ -14,20 +14,20 @@ read-full-requires c κs = search needs
 array-share-prefix-input : tie.Need-array-share-prefix-input
 array-share-prefix-input c = search needs
 
-slice-aggregate-print : tie.Need-slice-aggregate-print
-slice-aggregate-print c = search needs
+slice-aggregate-put-text : tie.Need-slice-aggregate-put-text
+slice-aggregate-put-text c = search needs
 
-slice-aggregate-print-2 : tie.Need-slice-aggregate-print-2
-slice-aggregate-print-2 c = search needs
+slice-aggregate-put-text-2 : tie.Need-slice-aggregate-put-text-2
+slice-aggregate-put-text-2 c = search needs
 
-print-requires : tie.Need-print-requires
-print-requires c κs = search needs
+put-text-requires : tie.Need-put-text-requires
+put-text-requires c κs = search needs
 
 array-share-prefix-out : tie.Need-array-share-prefix-out
 array-share-prefix-out c = search needs
 
 slice-aggregate-write-all : tie.Need-slice-aggregate-write-all
-slice-aggregate-write-all c = sym (length-take-le (c .before .before .print .result) _ (c .before .before .print .ensures .1))
+slice-aggregate-write-all c = sym (length-take-le (c .before .before .put-text .result) _ (c .before .before .put-text .ensures .1))
 
 write-all-requires : tie.Need-write-all-requires
 write-all-requires c κs = search needs
@@ -42,9 +42,9 @@ main-spec =
     slice-aggregate-read-full
     read-full-requires
     array-share-prefix-input
-    slice-aggregate-print
-    slice-aggregate-print-2
-    print-requires
+    slice-aggregate-put-text
+    slice-aggregate-put-text-2
+    put-text-requires
     array-share-prefix-out
     slice-aggregate-write-all
     write-all-requires

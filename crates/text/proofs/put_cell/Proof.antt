@@ -1,19 +1,19 @@
 -- `text::put_cell` meets its contract. Assumes nothing.
 use borrow.Author.Needs.{needs}
 use mathlib.Core.List.{[], _∷_}
-use Rattle.text.specs.Text.{space, valueText, cellText}
+use Rattle.text.specs.Text.{space, spaced, valueText}
 use Rattle.text.specs.PutsLaws.{puts-puts, room-first, room-behind}
 use Rattle.text.proofs.put_cell.Statement.{statement}
 use Rattle.text.proofs.put_cell.Tie as tie
 
 put-requires : tie.Need-put-requires
-unfolding cellText
+unfolding spaced
 put-requires c κs =
     let b = c .before .before in
     room-first (b .args .at) (space ∷ []) (valueText (b .args .x)) (b .args .out .now) (b .pre)
 
 put-value-requires : tie.Need-put-value-requires
-unfolding cellText
+unfolding spaced
 put-value-requires c κs =
     let b = c .before .before .before .before .before .before in
     room-behind (c .before .before .before .put .ensures) (valueText (b .args .x)) (b .pre)
@@ -22,7 +22,7 @@ same-length : tie.Need-same-length
 same-length c = search needs
 
 returns : tie.Need-returns
-unfolding cellText
+unfolding spaced
 returns c = puts-puts (c .before .before .before .before .before .before .put .ensures) (c .before .before .put-value .ensures)
 
 pub put-cell-spec : {M : Type 1} → statement M

@@ -2,17 +2,17 @@
 use mathlib.Core.Path.{_≡_, ap, _∙_}
 use Prim.Native.Nat.{ℕ, _-_, _≤_}
 use native.Mathlib.Omega.{arith}
-use lib.ListN.{length, take, getD}
+use lib.ListN.{length, take}
 use lib.Seq.{take-length}
 use Rattle.text.specs.Puts.{Puts}
-use Rattle.text.specs.Text.{cellsText}
+use Rattle.text.specs.Text.{listed, valueText}
 use Rattle.text.specs.PutsLaws.{puts-none, puts-long, puts-puts, puts-as, room-behind}
-use Rattle.text.specs.TextLaws.{cells-none, cells-more, room-cells}
+use Rattle.text.specs.TextLaws.{listed-none, listed-more, room-listed}
 use Rattle.text.proofs.put_cells.Statement.{statement}
 use Rattle.text.proofs.put_cells.Tie as tie
 
 abbrev Inv-loop : tie.InvT-loop
-Inv-loop out₀ at cells next₀ i₀ out next i = (i ≤ length cells) × Puts at (cellsText (take i cells)) out₀ out next
+Inv-loop out₀ at cells next₀ i₀ out next i = (i ≤ length cells) × Puts at (listed valueText (take i cells)) out₀ out next
 
 abbrev μ-loop : tie.MeasureT-loop
 μ-loop out₀ at cells next₀ i₀ out next i = length cells - i
@@ -20,7 +20,7 @@ abbrev μ-loop : tie.MeasureT-loop
 loop-holds : tie.Need-loop-holds Inv-loop μ-loop
 loop-holds c =
     let b = c .before .before in
-    (omega arith, puts-as (cells-none (b .args .cells .now)) (puts-none (b .args .at) (b .args .out .now) (omega (arith, b .pre))))
+    (omega arith, puts-as (listed-none valueText (b .args .cells .now)) (puts-none (b .args .at) (b .args .out .now) (omega (arith, b .pre))))
 
 shared-slice-read-put-cell : tie.Need-shared-slice-read-put-cell Inv-loop μ-loop
 shared-slice-read-put-cell c = omega arith
@@ -29,7 +29,7 @@ put-cell-requires : tie.Need-put-cell-requires Inv-loop μ-loop
 put-cell-requires c κs =
     let b = c .before .before .before .before .before .before in
     let l = c .before .before .before .loop in
-    room-behind (l .inv .1) _ (room-cells (b .args .cells .now) (l .i) (c .before .before .loop-test .taken) (b .args .at) (b .args .out .now) (b .pre))
+    room-behind (l .inv .1) _ (room-listed valueText (b .args .cells .now) (l .i) (c .before .before .loop-test .taken) (b .args .at) (b .args .out .now) (b .pre))
 
 add-i : tie.Need-add-i Inv-loop μ-loop
 add-i c = omega arith
@@ -41,7 +41,7 @@ loop-again : tie.Need-loop-again Inv-loop μ-loop
 loop-again c =
     let b = c .before .before .before .before .before .before .before .before .before in
     let l = c .before .before .before .before .before .before .loop in
-    (omega arith, puts-as (cells-more (b .args .cells .now) (l .i) (c .before .before .before .before .before .loop-test .taken)) (puts-puts (l .inv .1) (c .before .before .put-cell .ensures)))
+    (omega arith, puts-as (listed-more valueText (b .args .cells .now) (l .i) (c .before .before .before .before .before .loop-test .taken)) (puts-puts (l .inv .1) (c .before .before .put-cell .ensures)))
 
 same-length : tie.Need-same-length Inv-loop μ-loop
 same-length c = puts-long (c .before .loop .inv .1)
@@ -51,7 +51,7 @@ returns c =
     let w = c .before .before .before .before .args .cells .now in
     let l = c .before .loop in
     let end : l .i ≡ length w = omega arith in
-    puts-as (ap (λ (k : ℕ). cellsText (take k w)) end ∙ ap cellsText (take-length w)) (l .inv .1)
+    puts-as (ap (λ (k : ℕ). listed valueText (take k w)) end ∙ ap (listed valueText) (take-length w)) (l .inv .1)
 
 pub put-cells-spec : {M : Type 1} → statement M
 put-cells-spec =

@@ -1,7 +1,7 @@
 -- `text::put_line` meets its contract. Assumes nothing.
 use borrow.Author.Needs.{needs}
 use mathlib.Core.List.{[], _∷_, _++_}
-use Rattle.text.specs.Text.{line-feed, cellsText, line}
+use Rattle.text.specs.Text.{line-feed, listed, line, valueText}
 use Rattle.text.specs.PutsLaws.{puts-puts, room-first, room-behind}
 use Rattle.text.proofs.put_line.Statement.{statement}
 use Rattle.text.proofs.put_line.Tie as tie
@@ -11,7 +11,7 @@ unfolding line
 put-word-requires c κs =
     let b = c .before .before .before .before in
     let w = b .args .word .now in
-    let t = cellsText (b .args .cells .now) in
+    let t = listed valueText (b .args .cells .now) in
     let o = b .args .out .now in
     room-first (b .args .at) w t o (room-first (b .args .at) (w ++ t) (line-feed ∷ []) o (b .pre))
 
@@ -19,7 +19,7 @@ put-cells-requires : tie.Need-put-cells-requires
 unfolding line
 put-cells-requires c κs =
     let b = c .before .before .before .before .before .before .before .before in
-    let t = cellsText (b .args .cells .now) in
+    let t = listed valueText (b .args .cells .now) in
     room-behind (c .before .before .before .put-word .ensures) t (room-first (b .args .at) (b .args .word .now ++ t) (line-feed ∷ []) (b .args .out .now) (b .pre))
 
 put-requires : tie.Need-put-requires

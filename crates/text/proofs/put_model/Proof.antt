@@ -2,7 +2,7 @@
 use borrow.Author.Needs.{needs}
 use Prim.Native.Nat.{_+_, _-_}
 use lib.ListN.{take, drop}
-use Rattle.text.specs.Text.{stack-word, heap-word, line}
+use Rattle.text.specs.Text.{stack-word, heap-word, line, valueText}
 use Rattle.text.specs.PutsLaws.{puts-puts, puts-as, room-first, room-behind, room-as}
 use Rattle.text.specs.TextLaws.{model-cut}
 use Rattle.text.proofs.put_model.Statement.{statement}
@@ -29,8 +29,8 @@ put-line-requires c κs =
     let v = b .args .v in
     let n = b .args .n in
     let m = b .args .model .now in
-    let all = room-as (b .args .at) (b .args .out .now) (model-cut v n m) (b .pre .1) in
-    room-first (b .args .at) (line stack-word (take (v - 0) m)) (line heap-word (take (v + n - v) (drop v m))) (b .args .out .now) all
+    let all = room-as (b .args .at) (b .args .out .now) (model-cut v n m (b .pre .1)) (b .pre .2) in
+    room-first (b .args .at) (line stack-word valueText (take (v - 0) m)) (line heap-word valueText (take (v + n - v) (drop v m))) (b .args .out .now) all
 
 slice-aggregate-put-line-2 : tie.Need-slice-aggregate-put-line-2
 slice-aggregate-put-line-2 c = search needs
@@ -50,8 +50,8 @@ put-line-requires-2 c κs =
     let v = b .args .v in
     let n = b .args .n in
     let m = b .args .model .now in
-    let all = room-as (b .args .at) (b .args .out .now) (model-cut v n m) (b .pre .1) in
-    room-behind (c .before .before .before .before .before .put-line .ensures) (line heap-word (take (v + n - v) (drop v m))) all
+    let all = room-as (b .args .at) (b .args .out .now) (model-cut v n m (b .pre .1)) (b .pre .2) in
+    room-behind (c .before .before .before .before .before .put-line .ensures) (line heap-word valueText (take (v + n - v) (drop v m))) all
 
 same-length : tie.Need-same-length
 same-length c = search needs
@@ -59,7 +59,7 @@ same-length c = search needs
 returns : tie.Need-returns
 returns c =
     let a = c .before .before .before .before .before .before .before .before .before .before .before .before .before .before .args in
-    puts-as (model-cut (a .v) (a .n) (a .model .now)) (puts-puts (c .before .before .before .before .before .before .before .before .put-line .ensures) (c .before .before .put-line2 .ensures))
+    puts-as (model-cut (a .v) (a .n) (a .model .now) (c .before .before .before .before .before .before .before .before .before .before .before .before .before .before .pre .1)) (puts-puts (c .before .before .before .before .before .before .before .before .put-line .ensures) (c .before .before .put-line2 .ensures))
 
 pub put-model-spec : {M : Type 1} → statement M
 put-model-spec =

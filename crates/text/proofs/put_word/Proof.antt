@@ -2,7 +2,7 @@
 use mathlib.Core.Path.{_≡_, ap, _∙_}
 use Prim.Native.Nat.{ℕ, _-_, _≤_}
 use native.Mathlib.Omega.{arith}
-use lib.ListN.{length, take, getD}
+use lib.ListN.{length, take}
 use lib.Seq.{take-length}
 use Rattle.text.specs.Puts.{Puts}
 use Rattle.text.specs.PutsLaws.{puts-none, puts-long, puts-puts, puts-as, room-behind, word-more, room-word}
@@ -10,7 +10,7 @@ use Rattle.text.proofs.put_word.Statement.{statement}
 use Rattle.text.proofs.put_word.Tie as tie
 
 abbrev Inv-loop : tie.InvT-loop
-Inv-loop out₀ at word next₀ i₀ out next i = (i ≤ length word) × Puts at ((take i word)) out₀ out next
+Inv-loop out₀ at word next₀ i₀ out next i = (i ≤ length word) × Puts at (take i word) out₀ out next
 
 abbrev μ-loop : tie.MeasureT-loop
 μ-loop out₀ at word next₀ i₀ out next i = length word - i
@@ -49,7 +49,7 @@ returns c =
     let w = c .before .before .before .before .args .word .now in
     let l = c .before .loop in
     let end : l .i ≡ length w = omega arith in
-    puts-as (ap (λ (k : ℕ). (take k w)) end ∙ take-length w) (l .inv .1)
+    puts-as (ap (λ (k : ℕ). take k w) end ∙ take-length w) (l .inv .1)
 
 pub put-word-spec : {M : Type 1} → statement M
 put-word-spec =

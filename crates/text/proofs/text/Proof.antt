@@ -12,7 +12,7 @@ put-answer-requires c κs =
     let b = c .before .before .before .before .before in
     let x = b .args in
     let g = c .before .before .struct-known .given in
-    let all = room-text (x .a) (x .v) (x .n) (x .model .now) (x .out .now) (g .0 .fits) (g .1 .0 .fits) (g .1 .1 .0 .fits) (b .pre .0) (b .pre .1) (λ i. c .before .before .before .before .shared-slice-known .given i .fits) (b .pre .3) in
+    let all = room-text (x .a) (x .v) (x .n) (x .model .now) (x .out .now) (g .0 .fits) (g .1 .0 .fits) (g .1 .1 .0 .fits) (b .pre .0) (b .pre .1) (λ i. c .before .before .before .before .shared-slice-known .given i .fits) (b .pre .4) in
     room-first 0 (firstLine (x .a)) (modelText (x .v) (x .n) (x .model .now)) (x .out .now) all
 
 same-length : tie.Need-same-length
@@ -29,7 +29,7 @@ put-answer-requires-2 c κs =
     let b = c .before .before .before .before .before in
     let x = b .args in
     let g = c .before .before .struct-known .given in
-    let all = room-text (x .a) (x .v) (x .n) (x .model .now) (x .out .now) (g .0 .fits) (g .1 .0 .fits) (g .1 .1 .0 .fits) (b .pre .0) (b .pre .1) (λ i. c .before .before .before .before .shared-slice-known .given i .fits) (b .pre .3) in
+    let all = room-text (x .a) (x .v) (x .n) (x .model .now) (x .out .now) (g .0 .fits) (g .1 .0 .fits) (g .1 .1 .0 .fits) (b .pre .0) (b .pre .1) (λ i. c .before .before .before .before .shared-slice-known .given i .fits) (b .pre .4) in
     room-first 0 (firstLine (x .a)) (modelText (x .v) (x .n) (x .model .now)) (x .out .now) all
 
 put-model-requires : tie.Need-put-model-requires
@@ -37,8 +37,8 @@ put-model-requires c κs =
     let b = c .before .before .before .before .before .before .before .before .before in
     let x = b .args in
     let g = c .before .before .before .before .before .before .struct-known .given in
-    let all = room-text (x .a) (x .v) (x .n) (x .model .now) (x .out .now) (g .0 .fits) (g .1 .0 .fits) (g .1 .1 .0 .fits) (b .pre .0) (b .pre .1) (λ i. c .before .before .before .before .before .before .before .before .shared-slice-known .given i .fits) (b .pre .3) in
-    (b .pre .2, room-behind (c .before .before .before .put-answer2 .ensures) (modelText (x .v) (x .n) (x .model .now)) all)
+    let all = room-text (x .a) (x .v) (x .n) (x .model .now) (x .out .now) (g .0 .fits) (g .1 .0 .fits) (g .1 .1 .0 .fits) (b .pre .0) (b .pre .1) (λ i. c .before .before .before .before .before .before .before .before .shared-slice-known .given i .fits) (b .pre .4) in
+    (b .pre .2, b .pre .3, room-behind (c .before .before .before .put-answer2 .ensures) (modelText (x .v) (x .n) (x .model .now)) all)
 
 same-length-2 : tie.Need-same-length-2
 same-length-2 c = search needs

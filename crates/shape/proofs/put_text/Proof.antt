@@ -1,13 +1,13 @@
--- `shape::print` meets its contract. Assumes nothing.
+-- `shape::put_text` meets its contract. Assumes nothing.
 use borrow.Author.Needs.{needs}
 use native.Mathlib.Omega.{arith}
-use mathlib.Core.Path.{_≡_, ap}
+use mathlib.Core.Path.{ap}
 use mathlib.Core.List.{List}
 use Prim.Native.Nat.{ℕ, _≤_}
 use lib.ListN.{length, getD}
-use Rattle.shape.specs.PrintsLaws.{found-whole, prints-front, bounds-free, bounds-read}
-use Rattle.shape.proofs.print.Statement.{statement}
-use Rattle.shape.proofs.print.Tie as tie
+use Rattle.shape.specs.PrintsLaws.{found-whole, found-locations, prints-front, bounds-free, bounds-read}
+use Rattle.shape.proofs.put_text.Statement.{statement}
+use Rattle.shape.proofs.put_text.Tie as tie
 
 slice-aggregate-search : tie.Need-slice-aggregate-search
 slice-aggregate-search c = search needs
@@ -19,7 +19,7 @@ slice-aggregate-text : tie.Need-slice-aggregate-text
 slice-aggregate-text c = search needs
 
 text-requires : tie.Need-text-requires
-text-requires c κs = search needs
+text-requires c κs = (search needs, search needs, search needs, λ i l. absurd (omega arith), search needs)
 
 same-length : tie.Need-same-length
 same-length c = search needs
@@ -71,7 +71,7 @@ text-requires-2 c κs =
     let n = ap (λ (b : List ℕ). getD b 1 0) p in
     let few : c .before .before .before .wide .result ≤ 6 = omega (arith, c .before .before .before .wide .ensures .0, v, w .bounds .vars) in
     let small : c .before .wide2 .result ≤ 6 = omega (arith, c .before .wide2 .ensures .0, n, w .bounds .locs) in
-    (omega arith, omega arith, omega arith, search needs)
+    (omega arith, omega arith, omega arith, λ i l. found-locations s (q .result) (q .last .1 .1 .0) (q .ensures) (c .before .before .before .before .before .before .before .if1 .left) i (omega (arith, c .before .before .before .wide .ensures .0, v)), search needs)
 
 same-length-2 : tie.Need-same-length-2
 same-length-2 c = search needs
@@ -86,8 +86,8 @@ returns-2 c =
     prints-front s (q .result) m (q .ensures) (v .result) (n .result)
     (bounds-read s (q .result) m (q .ensures) _ (v .result) (n .result) (c .before .before .before .before .before .before .before .before .before .part .ensures) (v .ensures .0) (n .ensures .0)) (c .before .before .before .before .before .before .before .before .before .before .before .before .before .before .before .before .before .args .out .now) _ _ (c .before .before .text2 .ensures)
 
-pub print-spec : {M : Type 1} → statement M
-print-spec =
+pub put-text-spec : {M : Type 1} → statement M
+put-text-spec =
     tie.close
     (tie.spec
     slice-aggregate-search
