@@ -15,7 +15,8 @@ use Rattle.rows.specs.Assignment.{on}
 use Rattle.rows.specs.Meaning.{Splits, Apart, Same}
 use Rattle.rows.specs.Table.{arraysIn, setsIn, Flat}
 use Rattle.rows.specs.Condition.{Condition}
-use Rattle.rows.specs.Nodes.{each-atom, atom-operands, child-operands, tree-atom, tree-join}
+use Rattle.logic.specs.NodeLaws.{atom-operands, child-operands, tree-atom, tree-join}
+use Rattle.rows.specs.Operators.{each-atom}
 use Rattle.rows.specs.Sound.{flat}
 use Rattle.assign.specs.declared.Setting.{Setting}
 use Rattle.assign.specs.declared.Told.{Told}

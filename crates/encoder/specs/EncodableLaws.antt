@@ -12,7 +12,8 @@ use Rattle.logic.specs.Reflect.{Is, is-iff, false-true, fails}
 use Rattle.logic.specs.Table.{opOf, operandOf, atomOf, joinOf, joinFrom5, tree}
 use Rattle.logic.specs.Book.{nodes}
 use Rattle.rows.specs.Table.{Flat, Encodable}
-use Rattle.rows.specs.Nodes.{each-atom, each-join, tree-atom, tree-join}
+use Rattle.logic.specs.NodeLaws.{tree-atom, tree-join}
+use Rattle.rows.specs.Operators.{each-atom, each-join}
 use Rattle.encoder.specs.Written.{Known}
 
 is-yes : {P : Type 0} → P → Is true P

@@ -17,7 +17,7 @@ use Rattle.rows.specs.Table.{arraysIn, setsIn, moved, twoSets, arrayAndSets, af
 use Rattle.rows.specs.TableLaws.{chains-long, rows-some, rows-long, trees-long}
 use Rattle.rows.specs.Bounds.{ownRows}
 use Rattle.rows.specs.BoundsLaws.{rows-add}
-use Rattle.rows.specs.Nodes.{child-operands, tree-atom, tree-join}
+use Rattle.logic.specs.NodeLaws.{child-operands, tree-atom, tree-join}
 use Rattle.encoder.specs.Written.{Known, put, Puts, Space, Room, Encoded, Trees, RoomTrees}
 use Rattle.encoder.specs.WrittenLaws.{row-after, puts-as, rows-rows, pair-rows, space-after, space-less}
 

@@ -12,7 +12,7 @@ use Rattle.logic.specs.TruthHolds.{truth-holds}
 use Rattle.logic.specs.Reflect.{is-same, Is, false-true, is-iff}
 use Rattle.cells.specs.Cells.{most}
 use Rattle.judge.specs.Setting.{varsOf, locsOf, pathOf, stackOf, Ready, truthAt}
-use Rattle.judge.specs.Nodes.{atom-operands, tree-atom}
+use Rattle.logic.specs.NodeLaws.{atom-operands, tree-atom}
 
 module _ (f b : List ℕ) (k : ℕ) (rd : Ready f b k) (l : opOf f k ≤ 4) where
   pub variables : (operandOf f k 0 ≤ most) × (operandOf f k 1 ≤ most)

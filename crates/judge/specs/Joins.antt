@@ -10,7 +10,7 @@ use Rattle.logic.specs.Tests.{andb, orb, any, sepAt, septAt}
 use Rattle.logic.specs.Truth.{truth}
 use Rattle.logic.specs.Table.{opOf, operandOf, joinOf, joinFrom5, tree}
 use Rattle.judge.specs.Setting.{varsOf, locsOf, stackOf, Ready, Joined, truthOf, truthAt, firstAt, secondAt}
-use Rattle.judge.specs.Nodes.{child-operands, tree-join}
+use Rattle.logic.specs.NodeLaws.{child-operands, tree-join}
 
 -- a node's operator is 1 to 10
 pub operator-low : (f b : List ℕ) (k : ℕ) → Ready f b k → ¬ (opOf f k < 1)

@@ -1,5 +1,4 @@
 pub mod Setting
-pub mod Nodes
 pub mod Atoms
 pub mod Joins
 pub mod Trial

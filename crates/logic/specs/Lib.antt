@@ -18,6 +18,7 @@ pub mod Computed
 pub mod ComputedLaws
 pub mod ModelLaws
 pub mod TableLaws
+pub mod NodeLaws
 pub mod Entries
 pub mod BookLaws
 pub mod Candidates

@@ -10,7 +10,7 @@ use Rattle.logic.specs.Table.{opOf, kindOf, Sound, Tree, atomOf, joinOf, joinFr
 use Rattle.logic.specs.Book.{most}
 use Rattle.rows.specs.Table.{arraysIn, setsIn, rowsIn, arrays, sets}
 use Rattle.rows.specs.Bounds.{mostRows, mostArrays, mostSets, ownRows, ownArrays, ownSets}
-use Rattle.rows.specs.Nodes.{each-atom, each-join}
+use Rattle.rows.specs.Operators.{each-atom, each-join}
 use Rattle.rows.specs.Weight.{sum, sum-add, sum-mul, sum-one, sum-le, sum-same, kid, kids, children, Adds, adds-up}
 
 -- ---- rows, arrays and sets add up

@@ -11,7 +11,7 @@ pub mod Symbols
 pub mod PartSets
 pub mod Complete
 pub mod Encoding
-pub mod Nodes
+pub mod Operators
 pub mod Weight
 pub mod Bounds
 pub mod BoundsLaws

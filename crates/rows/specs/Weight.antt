@@ -12,7 +12,7 @@ use Rattle.logic.specs.Tests.{pick}
 use Rattle.logic.specs.Formula.{Form}
 use Rattle.logic.specs.Table.{opOf, operandOf, kindOf, Operand, OperandOk, Sound, usesOn, uses, Tree, atomOf, joinOf, tree}
 use Rattle.logic.specs.TableLaws.{not-used-on, no-child-on}
-use Rattle.rows.specs.Nodes.{tree-atom, tree-join}
+use Rattle.logic.specs.NodeLaws.{tree-atom, tree-join}
 
 -- f 0 + f 1 + .. + f (n - 1)
 unfoldable pub sum : ℕ → (ℕ → ℕ) → ℕ

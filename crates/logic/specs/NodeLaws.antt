@@ -65,27 +65,3 @@ module _ (v : ℕ) (f : List ℕ) (n : ℕ) (ok : Sound v f n) where
       let a : operandOf f k 0 < k = o .0 in
       let b : operandOf f k 1 < k = o .1 in
       rw (lt-leb (opOf f k) 4 l) (ap₂ (joinOf (opOf f k)) (deep-tree k (operandOf f k 0) a (omega arith)) (deep-tree k (operandOf f k 1) b (omega arith)))
-
--- ---- operators one by one
-module _ (P : ℕ → Type 0) where
-  pub each-atom : P 1 → P 2 → P 3 → P 4 → (o : ℕ) → 1 ≤ o → o ≤ 4 → P o
-  each-atom p1 p2 p3 p4 zero l h = absurd (not-suc-le-zero l)
-  each-atom p1 p2 p3 p4 (suc zero) l h = p1
-  each-atom p1 p2 p3 p4 (suc (suc zero)) l h = p2
-  each-atom p1 p2 p3 p4 (suc (suc (suc zero))) l h = p3
-  each-atom p1 p2 p3 p4 (suc (suc (suc (suc zero)))) l h = p4
-  each-atom p1 p2 p3 p4 (suc (suc (suc (suc (suc o))))) l h = absurd (omega arith)
-
-  pub each-join : P 5 → P 6 → P 7 → P 8 → P 9 → P 10 → (o : ℕ) → 5 ≤ o → o ≤ 10 → P o
-  each-join p5 p6 p7 p8 p9 p10 zero l h = absurd (omega arith)
-  each-join p5 p6 p7 p8 p9 p10 (suc zero) l h = absurd (omega arith)
-  each-join p5 p6 p7 p8 p9 p10 (suc (suc zero)) l h = absurd (omega arith)
-  each-join p5 p6 p7 p8 p9 p10 (suc (suc (suc zero))) l h = absurd (omega arith)
-  each-join p5 p6 p7 p8 p9 p10 (suc (suc (suc (suc zero)))) l h = absurd (omega arith)
-  each-join p5 p6 p7 p8 p9 p10 (suc (suc (suc (suc (suc zero))))) l h = p5
-  each-join p5 p6 p7 p8 p9 p10 (suc (suc (suc (suc (suc (suc zero)))))) l h = p6
-  each-join p5 p6 p7 p8 p9 p10 (suc (suc (suc (suc (suc (suc (suc zero))))))) l h = p7
-  each-join p5 p6 p7 p8 p9 p10 (suc (suc (suc (suc (suc (suc (suc (suc zero)))))))) l h = p8
-  each-join p5 p6 p7 p8 p9 p10 (suc (suc (suc (suc (suc (suc (suc (suc (suc zero))))))))) l h = p9
-  each-join p5 p6 p7 p8 p9 p10 (suc (suc (suc (suc (suc (suc (suc (suc (suc (suc zero)))))))))) l h = p10
-  each-join p5 p6 p7 p8 p9 p10 (suc (suc (suc (suc (suc (suc (suc (suc (suc (suc (suc o))))))))))) l h = absurd (omega arith)
