@@ -1,14 +1,7 @@
 //! The boundary as the archive has it. A slice passes as a pointer and then a length. Nothing
 //! checks these lines against the archive's own source.
 
-/// A number, a place and a tried count.
-#[derive(Clone, Copy, Debug, PartialEq, Eq)]
-#[repr(C)]
-pub struct Answer {
-    pub number: u64,
-    pub place: u64,
-    pub tried: u64,
-}
+use crate::answer::Answer;
 
 /// Where a body stands in its book.
 #[repr(C)]

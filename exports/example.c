@@ -1,0 +1,59 @@
+/* All six calls on one book: x points to itself, with one variable and one location.
+ *
+ *     cc -Wall -Wextra -Werror -O2 exports/example.c target/staticlib/libexports.a -o target/example && target/example
+ */
+#include <inttypes.h>
+#include <stdio.h>
+
+#include "hollyspool.h"
+
+static void print_answer(const char *call, hollyspool_answer answer)
+{
+    printf("%s: number %" PRIu64 " place %" PRIu64 " tried %" PRIu64 "\n", call, answer.number, answer.place, answer.tried);
+}
+
+static void print_bytes(const char *name, const uint8_t *bytes, size_t length)
+{
+    printf("%s:", name);
+    for (size_t at = 0; at < length; at++) {
+        printf(" %02x", bytes[at]);
+    }
+    printf("\n");
+}
+
+int main(void)
+{
+    static const uint8_t book[] = {2, 1, 11, 0, 3, 0, 2, 14, 0, 3, 0, 1, 1, 1, 3, 1, 1};
+    static const uint8_t assignment[] = {1, 1, 1};
+    static uint8_t encoding[HOLLYSPOOL_MOST_ENCODED];
+    uint8_t model[HOLLYSPOOL_MOST_MODEL];
+
+    print_answer("read", hollyspool_read(book, sizeof book));
+    /* A refusal, for comparison: the last byte is missing. */
+    print_answer("read", hollyspool_read(book, sizeof book - 1));
+
+    for (uint64_t entry = 0; entry < 2; entry++) {
+        hollyspool_stretch body = hollyspool_body(book, sizeof book, entry);
+        print_bytes("body", book + body.start, (size_t)body.length);
+    }
+
+    print_answer("search", hollyspool_search(book, sizeof book, 5, model, sizeof model));
+    hollyspool_answer found = hollyspool_search(book, sizeof book, 1000000, model, sizeof model);
+    print_answer("search", found);
+    if (found.number != HOLLYSPOOL_YES) {
+        return 1;
+    }
+    const size_t model_length = 2; /* v + n */
+    print_bytes("model", model, model_length);
+    print_answer("judge", hollyspool_judge(book, sizeof book, model, model_length));
+
+    hollyspool_answer encoded = hollyspool_encode(book, sizeof book, encoding, sizeof encoding);
+    print_answer("encode", encoded);
+    if (encoded.number != HOLLYSPOOL_YES) {
+        return 1;
+    }
+    /* The rows follow 14 bytes of contents and bounds; bytes 9 and 10 are their length, low first. */
+    print_bytes("encoding", encoding, 14 + encoding[9] + 256u * encoding[10]);
+    print_answer("assign", hollyspool_assign(book, sizeof book, assignment, sizeof assignment));
+    return 0;
+}

@@ -1,0 +1,76 @@
+/* The proved bench, for C. Link libexports.a, which `rt staticlib exports` leaves in target/staticlib.
+ *
+ * Each call takes any bytes at all. A slice is a pointer and a length; the pointer is never null, even where the length is
+ * 0, and an output overlaps nothing else. Nothing is kept after a call. Document 01 says what each call answers. */
+#ifndef HOLLYSPOOL_H
+#define HOLLYSPOOL_H
+
+#include <stddef.h>
+#include <stdint.h>
+
+#ifdef __cplusplus
+extern "C" {
+#endif
+
+/* The numbers given back. The place of a refusal is the node (14 to 16) or the byte (18, 22) that it names, from 0. */
+enum hollyspool_number {
+    HOLLYSPOOL_YES = 0,               /* fits, found, written, satisfied */
+    HOLLYSPOOL_NO = 1,                /* doesn't fit; none within the bounds; not satisfied */
+    HOLLYSPOOL_SPENT = 2,             /* budget spent */
+    HOLLYSPOOL_BOOK_LENGTH = 10,      /* book under 11 or over 206 bytes */
+    HOLLYSPOOL_CONTENTS = 11,         /* contents not as stated */
+    HOLLYSPOOL_BOUNDS = 12,           /* bounds body not 3 bytes, or a byte over 6 */
+    HOLLYSPOOL_FORMULA = 13,          /* formula empty or not a multiple of 3 */
+    HOLLYSPOOL_OPERATOR = 14,         /* operator not 1 to 10 */
+    HOLLYSPOOL_OPERAND = 15,          /* variable over v, child not lower, b of 8 not 0 */
+    HOLLYSPOOL_TREE = 16,             /* not a tree: a node but the root is not used exactly once */
+    HOLLYSPOOL_MODEL_LENGTH = 17,     /* model of wrong length */
+    HOLLYSPOOL_MODEL_VALUE = 18,      /* model's value out of range */
+    HOLLYSPOOL_NOT_ENCODABLE = 19,    /* operator 9 or 10 under a negation */
+    HOLLYSPOOL_OUTPUT_SHORT = 20,     /* output too short */
+    HOLLYSPOOL_ASSIGNMENT_LENGTH = 21, /* assignment of wrong length */
+    HOLLYSPOOL_ASSIGNMENT_VALUE = 22  /* assignment's value out of range */
+};
+
+/* An output of this many bytes is never too short for a search, or for an encoding. */
+#define HOLLYSPOOL_MOST_MODEL 12
+#define HOLLYSPOOL_MOST_ENCODED 6354
+
+/* What every call but body answers; tried is 0 outside search. */
+typedef struct {
+    uint64_t number;
+    uint64_t place;
+    uint64_t tried;
+} hollyspool_answer;
+
+/* Where a body stands in its book. */
+typedef struct {
+    uint64_t start;
+    uint64_t length;
+} hollyspool_stretch;
+
+/* Accepts a book (number 0) or says why not. */
+hollyspool_answer hollyspool_read(const uint8_t *book, size_t book_length);
+
+/* The body of entry 0 (bounds) or 1 (formula). Empty for a book refused before 12, and for any other entry. */
+hollyspool_stretch hollyspool_body(const uint8_t *book, size_t book_length, uint64_t entry);
+
+/* Says whether the model fits the book's formula. */
+hollyspool_answer hollyspool_judge(const uint8_t *book, size_t book_length, const uint8_t *model, size_t model_length);
+
+/* Looks for the lowest candidate that fits, and writes it, v + n bytes, if its number is below the budget. Output bytes change
+ * only with number 0, only at the front, and only as many as are written. */
+hollyspool_answer hollyspool_search(const uint8_t *book, size_t book_length, uint64_t budget, uint8_t *out, size_t out_length);
+
+/* Writes the encoding of the book's formula, as a book whose contents say how long it is. Output bytes change as for search. */
+hollyspool_answer hollyspool_encode(const uint8_t *book, size_t book_length, uint8_t *out, size_t out_length);
+
+/* Says whether the assignment satisfies the rows that the encoder gives for the book. */
+hollyspool_answer hollyspool_assign(const uint8_t *book, size_t book_length, const uint8_t *assignment,
+                                    size_t assignment_length);
+
+#ifdef __cplusplus
+}
+#endif
+
+#endif

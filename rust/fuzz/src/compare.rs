@@ -1,0 +1,106 @@
+//! Every call on one input, both benches.
+
+use hollyspool::Answer;
+use second::book::Book;
+
+use crate::guarded::Guarded;
+use crate::input::Input;
+use crate::tally::{Call, Tally};
+
+/// Makes all calls, or says what differs.
+pub fn all(input: &Input, tally: &mut Tally) -> Result<(), String> {
+    let book = &input.book;
+    let (proved, second) = (hollyspool::read(book), second::book::read(book));
+    same(tally, Call::Read, proved, second)?;
+    body(book, input.entry)?;
+    let proved = hollyspool::judge(book, &input.model);
+    let second = second::judge::judge(book, &input.model);
+    same(tally, Call::Judge, proved, second)?;
+    let proved = hollyspool::assign(book, &input.assignment);
+    let second = second::assign::assign(book, &input.assignment);
+    same(tally, Call::Assign, proved, second)?;
+    search(input, tally)?;
+    encode(input, tally)
+}
+
+/// Compares two answers, and counts them if they are the same.
+fn same(
+    tally: &mut Tally,
+    call: Call,
+    proved: Answer,
+    second: second::answer::Answer,
+) -> Result<(), String> {
+    let one = [proved.number, proved.place, proved.tried];
+    let other = [second.number, second.place, second.tried];
+    if one != other {
+        return Err(format!(
+            "{call:?} gives {one:?}, the second bench {other:?}"
+        ));
+    }
+    tally.count(call, proved.number);
+    Ok(())
+}
+
+/// The search; and what it finds, the judge accepts.
+fn search(input: &Input, tally: &mut Tally) -> Result<(), String> {
+    let book = &input.book;
+    let [mut proved, mut second] = [(); 2].map(|()| Guarded::new(input.model_room));
+    let found = hollyspool::search(book, input.budget, proved.out());
+    let expected = second::search::search(book, input.budget, second.out());
+    same(tally, Call::Search, found, expected)?;
+    let length = Book::accept(book).map_or(0, |book| book.bounds.v + book.bounds.n);
+    outputs(Call::Search, found, length, &mut proved, &mut second)?;
+    if found.number == 0 {
+        let judged = hollyspool::judge(book, &proved.out()[..length]);
+        let fits = second::answer::Answer::yes_or_no(true);
+        same(tally, Call::Judge, judged, fits)?;
+    }
+    Ok(())
+}
+
+fn encode(input: &Input, tally: &mut Tally) -> Result<(), String> {
+    let book = &input.book;
+    let [mut proved, mut second] = [(); 2].map(|()| Guarded::new(input.encoding_room));
+    let encoded = hollyspool::encode(book, proved.out());
+    let expected = second::encode::encode(book, second.out());
+    same(tally, Call::Encode, encoded, expected)?;
+    // The length that the encoding's own contents give.
+    let length = match *second.out() {
+        [_, _, _, _, _, _, _, _, _, low, high, ..] => {
+            14 + usize::from(low) + 256 * usize::from(high)
+        }
+        _ => 0,
+    };
+    outputs(Call::Encode, encoded, length, &mut proved, &mut second)
+}
+
+/// The body is the same stretch of the caller's bytes: where it starts counts, even of an empty one.
+fn body(book: &[u8], entry: u64) -> Result<(), String> {
+    let proved = hollyspool::body(book, entry).as_ptr_range();
+    let second = book[second::book::body(book, entry)].as_ptr_range();
+    if proved == second {
+        Ok(())
+    } else {
+        Err(format!("the body of entry {entry} is another stretch"))
+    }
+}
+
+/// The outputs are the same, and unchanged beyond the `length` bytes that number 0 writes.
+fn outputs(
+    call: Call,
+    answer: Answer,
+    length: usize,
+    proved: &mut Guarded,
+    second: &mut Guarded,
+) -> Result<(), String> {
+    let written = if answer.number == 0 { length } else { 0 };
+    if !proved.unchanged_beyond(written) {
+        return Err(format!(
+            "{call:?} changes bytes beyond the {written} it writes"
+        ));
+    }
+    if proved.out() != second.out() {
+        return Err(format!("{call:?} writes other bytes than the second bench"));
+    }
+    Ok(())
+}

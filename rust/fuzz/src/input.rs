@@ -1,0 +1,101 @@
+//! What the calls are given in one round.
+
+use cases::random::Random;
+use second::book::{Book, Bounds, MOST};
+use second::candidate::count;
+use second::rows::Table;
+
+use crate::books::{tame, Books};
+use crate::damage::damage;
+
+/// The visits of nodes that one search may cost.
+const VISITS: u64 = 60_000;
+
+/// A book, and all else that a call may take.
+#[derive(Debug)]
+pub struct Input {
+    pub book: Vec<u8>,
+    pub model: Vec<u8>,
+    pub assignment: Vec<u8>,
+    pub entry: u64,
+    pub budget: u64,
+    /// The length of a search's output.
+    pub model_room: usize,
+    /// The length of an encoding's output.
+    pub encoding_room: usize,
+}
+
+impl Input {
+    pub fn random(random: &mut Random, books: &Books) -> Input {
+        let mut book = books.any(random);
+        let visits = tame(&mut book);
+        let accepted = Book::accept(&book).ok();
+        let bounds = accepted.map_or_else(|| any_bounds(random), |book| book.bounds);
+        let table = accepted.and_then(|book| Table::of(&book).ok());
+        let (arrays, sets, rows) = table.map_or((1, 1, 1), |table| {
+            (table.arrays.into(), table.sets.into(), table.rows.len())
+        });
+        Input {
+            model: model(random, bounds),
+            assignment: assignment(random, bounds, arrays, sets),
+            entry: random.one_of(&[0, 1, 2, 255, 256, u64::MAX]),
+            budget: budget(random, count(bounds), visits),
+            model_room: room(random, bounds.v + bounds.n),
+            encoding_room: room(random, 14 + 10 * rows),
+            book,
+        }
+    }
+}
+
+fn any_bounds(random: &mut Random) -> Bounds {
+    let [v, n, p] = [(); 3].map(|()| random.below(MOST + 1));
+    Bounds { v, n, p }
+}
+
+/// A model, in range more often than not.
+fn model(random: &mut Random, bounds: Bounds) -> Vec<u8> {
+    let n = bounds.n as u8;
+    let mut model: Vec<u8> = (0..bounds.v).map(|_| random.up_to(n)).collect();
+    model.extend((0..n).map(|_| match random.up_to(n + 1) {
+        0 => 255,
+        digit => digit - 1,
+    }));
+    damaged_at_times(random, model)
+}
+
+/// An assignment, in range more often than not.
+fn assignment(random: &mut Random, bounds: Bounds, arrays: usize, sets: usize) -> Vec<u8> {
+    let n = bounds.n as u8;
+    let values = bounds.v + bounds.n * arrays;
+    let mut assignment: Vec<u8> = (0..values).map(|_| random.up_to(n)).collect();
+    assignment.extend((0..sets).map(|_| random.below(1 << n) as u8));
+    damaged_at_times(random, assignment)
+}
+
+fn damaged_at_times(random: &mut Random, mut bytes: Vec<u8>) -> Vec<u8> {
+    if random.below(6) == 0 {
+        damage(random, &mut bytes);
+    }
+    bytes
+}
+
+/// A budget that a search can be given: any where all candidates are soon tried.
+fn budget(random: &mut Random, total: u64, visits: u64) -> u64 {
+    let most = VISITS / visits.max(1);
+    if total <= most || visits == 0 {
+        let any = random.below(total as usize + 1) as u64;
+        random.one_of(&[any, any, total - 1, total, total + 1, u64::MAX, u64::MAX])
+    } else {
+        random.below(most as usize + 1) as u64
+    }
+}
+
+/// A length that is enough, just enough, or too short.
+fn room(random: &mut Random, needed: usize) -> usize {
+    match random.below(8) {
+        0 => needed.saturating_sub(1),
+        1 => random.below(needed + 1),
+        2..=4 => needed,
+        _ => needed + random.below(40),
+    }
+}

@@ -1,0 +1,33 @@
+//! The bounds of a book.
+
+/// How many variables and locations there are, and the path bound; each 0 to 6.
+#[derive(Clone, Copy, Debug, PartialEq, Eq)]
+pub struct Bounds {
+    /// Variables are 1 to v; variable 0 is nil.
+    pub v: u8,
+    /// Locations are 0 to n; location 0 is nil's.
+    pub n: u8,
+    /// The most links that a list has.
+    pub p: u8,
+}
+
+impl Bounds {
+    /// The largest value of each bound.
+    pub const MOST: u8 = 6;
+
+    /// T, the number of candidates: (n+1)^v × (n+2)^n.
+    ///
+    /// ```
+    /// let bounds = hollyspool::Bounds { v: 6, n: 6, p: 6 };
+    /// assert_eq!(bounds.candidates(), 30_840_979_456);
+    /// ```
+    pub fn candidates(self) -> u64 {
+        let n = u64::from(self.n);
+        (n + 1).pow(self.v.into()) * (n + 2).pow(self.n.into())
+    }
+
+    /// The bytes of a model: one for each variable, one for each location but nil's.
+    pub fn model_length(self) -> usize {
+        usize::from(self.v) + usize::from(self.n)
+    }
+}

@@ -1,0 +1,174 @@
+//! Formulas as trees, and their readable notation.
+
+use std::fmt;
+
+/// The variable whose location is always nil's.
+pub const NIL: u8 = 0;
+
+/// A formula: atoms over variables (by number, 0 being nil), and connectives.
+///
+/// The variants stand in the order of the operators, 1 to 10. They print in the notation of the
+/// logic, with brackets wherever one operator stands directly in another:
+///
+/// ```
+/// use hollyspool::{Formula, NIL};
+///
+/// let queue = Formula::Differ(1, NIL).star(Formula::Points(1, 2).star(Formula::List(2, NIL)));
+/// assert_eq!(queue.to_string(), "x1 ≠ nil * (x1 ↦ x2 * ls(x2, nil))");
+/// ```
+#[derive(Clone, Debug, PartialEq, Eq)]
+pub enum Formula {
+    /// 1, x = y: the same location, and the heap is empty.
+    Equal(u8, u8),
+    /// 2, x ≠ y: different locations, and the heap is empty.
+    Differ(u8, u8),
+    /// 3, x ↦ y: the heap is one cell, at x, and holds y's location.
+    Points(u8, u8),
+    /// 4, ls(x, y): the heap is a list of at most p links from x to y.
+    List(u8, u8),
+    /// 5, a ∧ b: both hold.
+    And(Box<Formula>, Box<Formula>),
+    /// 6, a ∨ b: one of them holds.
+    Or(Box<Formula>, Box<Formula>),
+    /// 7, a ∧ ¬b: guarded negation.
+    AndNot(Box<Formula>, Box<Formula>),
+    /// 8, ¬a.
+    Not(Box<Formula>),
+    /// 9, a * b: the heap is two strongly disjoint parts, one for each.
+    Star(Box<Formula>, Box<Formula>),
+    /// 10, a −⊛ b: an added heap fits a, and together with the heap it fits b.
+    Septraction(Box<Formula>, Box<Formula>),
+}
+
+impl Formula {
+    /// a ∧ b.
+    pub fn and(self, b: Formula) -> Formula {
+        Formula::And(Box::new(self), Box::new(b))
+    }
+
+    /// a ∨ b.
+    pub fn or(self, b: Formula) -> Formula {
+        Formula::Or(Box::new(self), Box::new(b))
+    }
+
+    /// a ∧ ¬b, guarded negation.
+    pub fn and_not(self, b: Formula) -> Formula {
+        Formula::AndNot(Box::new(self), Box::new(b))
+    }
+
+    /// ¬a.
+    pub fn negated(self) -> Formula {
+        Formula::Not(Box::new(self))
+    }
+
+    /// a * b.
+    pub fn star(self, b: Formula) -> Formula {
+        Formula::Star(Box::new(self), Box::new(b))
+    }
+
+    /// a −⊛ b, with this formula for the added heap.
+    pub fn septraction(self, b: Formula) -> Formula {
+        Formula::Septraction(Box::new(self), Box::new(b))
+    }
+
+    /// The operator's number, 1 to 10.
+    pub fn operator(&self) -> u8 {
+        match self {
+            Formula::Equal(..) => 1,
+            Formula::Differ(..) => 2,
+            Formula::Points(..) => 3,
+            Formula::List(..) => 4,
+            Formula::And(..) => 5,
+            Formula::Or(..) => 6,
+            Formula::AndNot(..) => 7,
+            Formula::Not(..) => 8,
+            Formula::Star(..) => 9,
+            Formula::Septraction(..) => 10,
+        }
+    }
+
+    /// How many nodes it has.
+    ///
+    /// ```
+    /// use hollyspool::Formula;
+    ///
+    /// assert_eq!(Formula::Equal(0, 0).negated().nodes(), 2);
+    /// ```
+    pub fn nodes(&self) -> usize {
+        match self {
+            Formula::Equal(..) | Formula::Differ(..) | Formula::Points(..) | Formula::List(..) => 1,
+            Formula::Not(a) => 1 + a.nodes(),
+            Formula::And(a, b)
+            | Formula::Or(a, b)
+            | Formula::AndNot(a, b)
+            | Formula::Star(a, b)
+            | Formula::Septraction(a, b) => 1 + a.nodes() + b.nodes(),
+        }
+    }
+
+    /// Whether a sign stands between two formulas.
+    fn joins(&self) -> bool {
+        matches!(self.operator(), 5..=7 | 9 | 10)
+    }
+}
+
+impl fmt::Display for Formula {
+    fn fmt(&self, f: &mut fmt::Formatter<'_>) -> fmt::Result {
+        match self {
+            Formula::Equal(x, y) => write!(f, "{} = {}", Variable(*x), Variable(*y)),
+            Formula::Differ(x, y) => write!(f, "{} ≠ {}", Variable(*x), Variable(*y)),
+            Formula::Points(x, y) => write!(f, "{} ↦ {}", Variable(*x), Variable(*y)),
+            Formula::List(x, y) => write!(f, "ls({}, {})", Variable(*x), Variable(*y)),
+            Formula::And(a, b) => {
+                write!(f, "{} ∧ ", Operand(a))?;
+                // Without brackets it would read as operator 7.
+                match **b {
+                    Formula::Not(_) => write!(f, "({b})"),
+                    _ => write!(f, "{}", Operand(b)),
+                }
+            }
+            Formula::Or(a, b) => write!(f, "{} ∨ {}", Operand(a), Operand(b)),
+            Formula::AndNot(a, b) => write!(f, "{} ∧ ¬{}", Operand(a), Negated(b)),
+            Formula::Not(a) => write!(f, "¬{}", Negated(a)),
+            Formula::Star(a, b) => write!(f, "{} * {}", Operand(a), Operand(b)),
+            Formula::Septraction(a, b) => write!(f, "{} −⊛ {}", Operand(a), Operand(b)),
+        }
+    }
+}
+
+/// A variable by its name.
+pub(crate) struct Variable(pub u8);
+
+impl fmt::Display for Variable {
+    fn fmt(&self, f: &mut fmt::Formatter<'_>) -> fmt::Result {
+        match self.0 {
+            NIL => write!(f, "nil"),
+            number => write!(f, "x{number}"),
+        }
+    }
+}
+
+/// A formula beside a sign: another sign in it needs brackets.
+struct Operand<'a>(&'a Formula);
+
+impl fmt::Display for Operand<'_> {
+    fn fmt(&self, f: &mut fmt::Formatter<'_>) -> fmt::Result {
+        if self.0.joins() {
+            write!(f, "({})", self.0)
+        } else {
+            write!(f, "{}", self.0)
+        }
+    }
+}
+
+/// A formula after `¬`: whatever does not begin with a word or another `¬` needs brackets.
+struct Negated<'a>(&'a Formula);
+
+impl fmt::Display for Negated<'_> {
+    fn fmt(&self, f: &mut fmt::Formatter<'_>) -> fmt::Result {
+        match self.0 {
+            Formula::List(..) | Formula::Not(_) => write!(f, "{}", self.0),
+            _ => write!(f, "({})", self.0),
+        }
+    }
+}

@@ -1,0 +1,41 @@
+//! The C header and the program that uses it, compiled with every warning an error, and run. The
+//! program's output shows that header and archive agree on how arguments and answers pass.
+
+use std::process::Command;
+
+const C: &str = concat!(env!("CARGO_MANIFEST_DIR"), "/../../exports");
+const ARCHIVE: &str = concat!(
+    env!("CARGO_MANIFEST_DIR"),
+    "/../../target/staticlib/libexports.a"
+);
+
+const OUTPUT: &str = "\
+read: number 0 place 0 tried 0
+read: number 11 place 0 tried 0
+body: 01 01 01
+body: 03 01 01
+search: number 2 place 0 tried 5
+search: number 0 place 0 tried 6
+model: 01 01
+judge: number 0 place 0 tried 0
+encode: number 0 place 0 tried 0
+encoding: 02 01 0b 00 03 00 03 0e 00 1e 00 01 01 01 04 00 00 00 01 00 00 00 00 00 \
+05 00 00 00 01 00 01 00 00 00 07 00 00 00 01 00 00 00 00 00
+assign: number 0 place 0 tried 0
+";
+
+#[test]
+fn example() {
+    let program = format!("{}/example", env!("CARGO_TARGET_TMPDIR"));
+    let source = format!("{C}/example.c");
+    let compiled = Command::new("cc")
+        .args(["-std=c99", "-Wall", "-Wextra", "-Werror", "-O2"])
+        .args([&*source, ARCHIVE, "-o", &*program])
+        .output()
+        .expect("there is a C compiler");
+    let errors = String::from_utf8_lossy(&compiled.stderr);
+    assert!(compiled.status.success(), "{errors}");
+    let run = Command::new(&program).output().expect("it runs");
+    assert!(run.status.success());
+    assert_eq!(String::from_utf8_lossy(&run.stdout), OUTPUT);
+}

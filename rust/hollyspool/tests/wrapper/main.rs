@@ -1,0 +1,5 @@
+//! What the wrapper adds to the calls: books from formulas, formulas from books, and words.
+
+mod books;
+mod models;
+mod numbers;

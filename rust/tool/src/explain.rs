@@ -1,0 +1,69 @@
+//! `explain`: what stands in a book, or why it is refused.
+
+use hollyspool::{Book, Bounds, Refusal};
+
+use crate::encode;
+use crate::fault::Fault;
+use crate::report::{object, Report, REFUSED};
+
+pub fn run(book: &[u8], json: bool) -> Report {
+    match (Book::accept(book), json) {
+        (Ok(book), false) => Report::text(0, accepted(&book)),
+        (Ok(book), true) => Report::text(0, accepted_in_json(&book)),
+        (Err(refusal), false) => Report::text(REFUSED, refused(book, refusal)),
+        (Err(refusal), true) => Report::text(REFUSED, refused_in_json(book, refusal)),
+    }
+}
+
+fn accepted(book: &Book) -> String {
+    let Bounds { v, n, p } = book.bounds();
+    let rows = match encode::count(book.bytes()) {
+        Some(count) => count.to_string(),
+        None => format!("none: {}", Refusal::NotEncodable),
+    };
+    format!(
+        "formula  {}\nnodes    {}\nbounds   v = {v}, n = {n}, p = {p}\n\
+         T        {} candidates\nrows     {rows}\n",
+        book.formula(),
+        book.formula().nodes(),
+        book.bounds().candidates(),
+    )
+}
+
+fn accepted_in_json(book: &Book) -> String {
+    let Bounds { v, n, p } = book.bounds();
+    let object = object(hollyspool::read(book.bytes()), "accepted")
+        .text("formula", &book.formula().to_string())
+        .number("nodes", book.formula().nodes() as u64)
+        .number("v", v.into())
+        .number("n", n.into())
+        .number("p", p.into())
+        .number("total", book.bounds().candidates());
+    match encode::count(book.bytes()) {
+        Some(rows) => object.number("rows", rows as u64).line(),
+        None => object.line(),
+    }
+}
+
+fn refused(book: &[u8], refusal: Refusal) -> String {
+    let mut text = format!("refused  number {}\nmeaning  {refusal}\n", refusal.number());
+    if let Some(Fault { byte, should }) = Fault::of(book, refusal) {
+        let is = match book.get(byte) {
+            Some(value) => format!("is {value:02x}"),
+            None => "is not there".to_owned(),
+        };
+        text += &format!("byte     {byte} {is}; expected {should}\n");
+    }
+    text
+}
+
+fn refused_in_json(book: &[u8], refusal: Refusal) -> String {
+    let object = object(hollyspool::read(book), &refusal.to_string());
+    match Fault::of(book, refusal) {
+        Some(Fault { byte, should }) => object
+            .number("byte", byte as u64)
+            .text("expected", &should)
+            .line(),
+        None => object.line(),
+    }
+}

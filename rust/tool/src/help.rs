@@ -1,0 +1,96 @@
+//! What `--help` prints.
+
+use crate::args::Command;
+
+/// The help for a command, or for all of them.
+pub fn about(command: Option<Command>) -> String {
+    match command {
+        None => format!("{OVERVIEW}{COMMON}{STATUS}"),
+        Some(command) => format!("{}{COMMON}{STATUS}", usage(command)),
+    }
+}
+
+const OVERVIEW: &str = "\
+hollyspool: a bounded checker for strong-separation logic whose every answer is proved
+
+  hollyspool search FILE [--budget N]    look for a model that fits the book's formula
+  hollyspool judge FILE MODEL            say whether a model fits
+  hollyspool encode FILE [--raw]         give the rows that the formula is encoded as
+  hollyspool assign FILE ASSIGNMENT      say whether an assignment satisfies those rows
+  hollyspool explain FILE                print the formula, the bounds and T, or why it is refused
+  hollyspool draw FILE [--budget N]      draw the model that is found, as Graphviz DOT
+
+hollyspool COMMAND --help says more of a command.
+";
+
+const COMMON: &str = "
+FILE is the path of a book, or - for standard input. MODEL and ASSIGNMENT are hex digits, with or
+without spaces, or @PATH for a file of bytes. --json prints one JSON object on standard output,
+whatever the answer is; bytes are hex digits in it.
+";
+
+const STATUS: &str = "
+Exit status: 0 found, fits, satisfied, written, accepted; 1 none, doesn't fit, not satisfied;
+2 budget spent; 3 refused; 64 bad arguments; 74 output not written.
+";
+
+fn usage(command: Command) -> &'static str {
+    match command {
+        Command::Search => SEARCH,
+        Command::Judge => JUDGE,
+        Command::Encode => ENCODE,
+        Command::Assign => ASSIGN,
+        Command::Explain => EXPLAIN,
+        Command::Draw => DRAW,
+    }
+}
+
+const SEARCH: &str = "\
+hollyspool search FILE [--budget N] [--json]
+
+Tries the candidates in their order, the first N of them or all, and prints the lowest that fits.
+\"None\" speaks of the book's bounds: no model with v variables, n locations and lists of at most p
+links fits.
+
+A search that takes over a second reports on standard error. The search itself is one proved call
+and can't be looked into, so while it runs the candidates a second are measured on the side, by a
+short search of the first candidates, and the candidates tried and their share of T are estimates
+(\"about\"). The last report, when the search has ended, has the true figures.
+";
+
+const JUDGE: &str = "\
+hollyspool judge FILE MODEL [--json]
+
+A model is v bytes, each variable's location (0 to n), and then n bytes, the value at each location
+from 1 (0 to n, or ff for unallocated).
+";
+
+const ENCODE: &str = "\
+hollyspool encode FILE [--raw] [--json]
+
+Prints the rows in words, a row a line: x is a variable, A an array, S a set, r an earlier row.
+--raw prints the encoding's bytes instead.
+";
+
+const ASSIGN: &str = "\
+hollyspool assign FILE ASSIGNMENT [--json]
+
+An assignment is v bytes, each variable's location (0 to n), then n bytes for each array (0 to n),
+then one byte for each set (bit 0 for location 1). Encode says which arrays and sets there are.
+";
+
+const EXPLAIN: &str = "\
+hollyspool explain FILE [--json]
+
+Prints the formula in readable notation, the bounds, T (the number of candidates) and the number of
+rows of the encoding. For a book that is refused: the number, what it means, and the byte that it
+points at.
+";
+
+const DRAW: &str = "\
+hollyspool draw FILE [--budget N] [--json]
+
+Searches as search does and prints the model as a digraph: a node for each location, with the
+variables that are there; nil is a box, and what is not allocated is dashed. For a picture:
+hollyspool draw FILE | dot -Tsvg > model.svg
+";

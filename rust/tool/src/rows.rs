@@ -1,0 +1,40 @@
+//! The rows of an encoding, in words.
+
+/// The bytes of a row.
+pub const ROW: usize = 10;
+
+/// The name of each row operator, from 1, and what its operands are: variables (x), arrays (A),
+/// sets (S) or earlier rows (r).
+const ROWS: [(&str, &str); 12] = [
+    ("EQ", "xx"),
+    ("NE", "xx"),
+    ("EMPTY", "S"),
+    ("ONE", "Sx"),
+    ("AT", "Axx"),
+    ("CHAIN", "ASxx"),
+    ("AND", "rr"),
+    ("OR", "rr"),
+    ("NOT", "r"),
+    ("SPLIT", "SSS"),
+    ("APART", "ASS"),
+    ("SAME", "AAS"),
+];
+
+const CHAIN: u8 = 6;
+
+/// A row, as the encoder writes it.
+pub fn in_words(row: &[u8; ROW]) -> String {
+    let [operator, k, operands @ ..] = row;
+    let (name, kinds) = ROWS[usize::from(*operator) - 1];
+    let mut words = name.to_owned();
+    for (kind, &pair) in kinds.chars().zip(operands.as_chunks().0) {
+        words += &match (kind, u16::from_le_bytes(pair)) {
+            ('x', 0) => " nil".to_owned(),
+            (kind, number) => format!(" {kind}{number}"),
+        };
+    }
+    if *operator == CHAIN {
+        words += &format!(" k={k}");
+    }
+    words
+}

@@ -1,0 +1,90 @@
+//! `search`: the lowest candidate that fits.
+
+use hollyspool::{Answer, Book, Bounds, Model, Verdict};
+
+use crate::args::Request;
+use crate::hex;
+use crate::progress;
+use crate::report::{object, status, Report};
+
+/// What a search of an accepted book has come to.
+pub struct Outcome {
+    pub answer: Answer,
+    pub verdict: Verdict,
+    pub bounds: Bounds,
+    /// With verdict yes.
+    pub model: Option<Model>,
+}
+
+/// The outcome, or the report of the book's refusal.
+pub fn outcome(book: &[u8], request: &Request) -> Result<Outcome, Report> {
+    let accepted = Book::accept(book)
+        .map_err(|refusal| Report::refused(refusal, hollyspool::read(book), request.json))?;
+    let bounds = accepted.bounds();
+    let (answer, out) = progress::search(&accepted, request.budget);
+    let verdict = answer
+        .settled()
+        .map_err(|refusal| Report::refused(refusal, answer, request.json))?;
+    let model = (verdict == Verdict::Yes)
+        .then(|| Model::read(bounds, &out).expect("a found model is in range"));
+    Ok(Outcome {
+        answer,
+        verdict,
+        bounds,
+        model,
+    })
+}
+
+impl Outcome {
+    /// The verdict in a word.
+    pub fn meaning(&self) -> &'static str {
+        match self.verdict {
+            Verdict::Yes => "found",
+            Verdict::No => "none",
+            Verdict::Spent => "spent",
+        }
+    }
+
+    /// The verdict in a line; none where a model is there to be shown.
+    pub fn without_a_model(&self) -> String {
+        let Bounds { v, n, p } = self.bounds;
+        let tried = self.answer.tried;
+        match self.verdict {
+            Verdict::Spent => format!("spent: none of the first {tried} candidates fits"),
+            _ => format!("none: nothing fits within the bounds v = {v}, n = {n}, p = {p}"),
+        }
+    }
+}
+
+pub fn run(book: &[u8], request: &Request) -> Report {
+    match outcome(book, request) {
+        Ok(outcome) if request.json => Report::text(status(outcome.verdict), in_json(&outcome)),
+        Ok(outcome) => Report::text(status(outcome.verdict), in_words(&outcome)),
+        Err(refused) => refused,
+    }
+}
+
+fn in_words(outcome: &Outcome) -> String {
+    let first = match &outcome.model {
+        Some(model) => format!(
+            "found: {model}\nmodel {}",
+            hex::written(&model.bytes(), " ")
+        ),
+        None => outcome.without_a_model(),
+    };
+    let (tried, total) = (outcome.answer.tried, outcome.bounds.candidates());
+    format!("{first}\ntried {tried} of T = {total}\n")
+}
+
+fn in_json(outcome: &Outcome) -> String {
+    let object =
+        object(outcome.answer, outcome.meaning()).number("total", outcome.bounds.candidates());
+    match &outcome.model {
+        Some(model) => object
+            .text("model", &hex::written(&model.bytes(), ""))
+            .numbers("stack", model.stack.iter().copied().map(Some))
+            .numbers("heap", model.heap.iter().copied())
+            .line(),
+        None => object.line(),
+    }
+}

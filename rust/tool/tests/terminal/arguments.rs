@@ -1,0 +1,58 @@
+//! Bad arguments get one line on standard error; `--help` works everywhere.
+
+use crate::run::{run, sample};
+
+const COMMANDS: [&str; 6] = ["search", "judge", "encode", "assign", "explain", "draw"];
+
+#[test]
+fn bad_arguments() {
+    let book = &*sample("queue_loops");
+    for (args, line) in [
+        (&[][..], "no command is given"),
+        (&["serach", book], "there is no command serach"),
+        (&["search"], "search needs a FILE"),
+        (&["search", book, book], "search takes one FILE, and no"),
+        (&["search", book, "--budget"], "--budget needs a number"),
+        (&["search", book, "--budget", "-1"], "a budget is a number"),
+        (
+            &["search", book, "--budget", "18446744073709551616"],
+            "a budget is a number",
+        ),
+        (&["search", book, "--raw"], "search has no option --raw"),
+        (&["judge", book], "judge needs a FILE and a MODEL"),
+        (&["judge", book, "0"], "0 is not two hex digits a byte"),
+        (&["judge", book, "+1"], "+1 has other than hex digits"),
+        (&["judge", book, "@not/there"], "can't read not/there"),
+        (
+            &["judge", book, "00", "--budget", "1"],
+            "judge has no option",
+        ),
+        (&["assign", book], "assign needs a FILE and an ASSIGNMENT"),
+        (&["encode", book, "--raw", "--json"], "--json and --raw"),
+        (&["explain", "not/there"], "can't read not/there"),
+        (&["explain", "."], "can't read ."),
+        (&["draw", book, "--colour"], "draw has no option --colour"),
+    ] {
+        let run = run(args);
+        assert_eq!((run.status, &*run.out), (64, ""), "{args:?}");
+        assert_eq!(run.err.lines().count(), 1, "{args:?}: {}", run.err);
+        let start = format!("hollyspool: {line}");
+        assert!(run.err.starts_with(&start), "{args:?}: {}", run.err);
+    }
+}
+
+#[test]
+fn help_everywhere() {
+    let all = run(&["--help"]);
+    assert_eq!((all.status, &*all.err), (0, ""));
+    for command in COMMANDS {
+        let usage = format!("hollyspool {command} FILE");
+        assert!(all.out.contains(&usage), "{command}");
+        for args in [&[command, "--help"][..], &[command, "no such file", "-h"]] {
+            let help = run(args);
+            assert_eq!((help.status, &*help.err), (0, ""), "{command}");
+            assert!(help.out.starts_with(&usage), "{command}");
+            assert!(help.out.contains("Exit status"), "{command}");
+        }
+    }
+}
