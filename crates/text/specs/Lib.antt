@@ -4,3 +4,6 @@ pub mod Puts
 pub mod PutsLaws
 pub mod TextLaws
 pub mod TextExamples
+pub mod Prints
+pub mod PrintsLaws
+pub mod PrintsExamples

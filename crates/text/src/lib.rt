@@ -1,13 +1,15 @@
-// What the program prints, as bytes: the answer's line, and the stack line and the heap line of a model that was found. Each
-// writer puts its bytes into the output from `at` on, and gives back the place after them.
+// What the program prints, as bytes: the answer's line, and the stack line and the heap line of a model that was found; and the
+// text for a book. Each writer puts its bytes into the output from `at` on, and gives back the place after them.
+use contents::part;
 use contents::wide;
 use logic::Answer;
 ghost use mathlib.Core.Path.{_≡_};
 ghost use mathlib.Core.List.{[], _∷_, _++_};
 ghost use Prim.Native.Nat.{_+_, _<_, _≤_};
-ghost use lib.ListN.{length, drop};
+ghost use lib.ListN.{length, take, drop};
 ghost use Rattle.text.specs.Text.{figure, decimal, numbered, firstLine, spaced, listed, line, valueText, modelText, textOf};
 ghost use Rattle.text.specs.Puts.{Puts, Room, Locations};
+ghost use Rattle.text.specs.Prints.{Prints};
 
 fn put(out: &mut [u8], at: usize, x: u8) -> usize
     requires { ⌜ Room at (x ∷ []) (now out) ⌝ }
@@ -120,7 +122,7 @@ fn put_model(out: &mut [u8], at: usize, model: &[u8], v: usize, n: usize) -> usi
 
 // Writes what is printed for the answer to the front of the output, and gives back its length. The model is looked at only
 // with number 0.
-pub fn text(a: Answer, model: &[u8], v: usize, n: usize, out: &mut [u8]) -> usize
+fn text(a: Answer, model: &[u8], v: usize, n: usize, out: &mut [u8]) -> usize
     requires { ⌜ (v ≤ 8) × (n ≤ 8) × (v + n ≤ length (now model)) × Locations v (now model) × (256 ≤ length (now out)) ⌝ }
     ensures { λ r. ⌜ r ≡ length (textOf a v n (now (model .entry))) ⌝ }
     ensures { λ r. ⌜ now (out .exit) ≡ textOf a v n (now (model .entry)) ++ drop (length (textOf a v n (now (model .entry)))) (now (out .entry)) ⌝ }
@@ -130,4 +132,18 @@ pub fn text(a: Answer, model: &[u8], v: usize, n: usize, out: &mut [u8]) -> usiz
     }
     let first = put_answer(out, a);
     put_model(out, first, model, v, n)
+}
+
+// Searches the book, writes what is printed for it to the front of the output, and gives back its length. Every text fits into
+// 256 bytes, so a caller has nothing to show.
+pub fn put_text(book: &[u8], out: &mut [u8; 256]) -> usize
+    ensures { λ r. ⌜ Prints (now (book .entry)) (take r (now (out .exit))) × (r ≤ length (now (out .exit))) ⌝ }
+{
+    let mut model = [0u8; 16];
+    let answer = search::search(book, 1000000, &mut model);
+    if answer.number != logic::YES {
+        return text(answer, &model, 0, 0, out);
+    }
+    let bounds = part(book, 0);
+    text(answer, &model, wide(bounds[0]), wide(bounds[1]), out)
 }

@@ -17,9 +17,6 @@ array-share-prefix-input c = search needs
 slice-aggregate-put-text : tie.Need-slice-aggregate-put-text
 slice-aggregate-put-text c = search needs
 
-slice-aggregate-put-text-2 : tie.Need-slice-aggregate-put-text-2
-slice-aggregate-put-text-2 c = search needs
-
 put-text-requires : tie.Need-put-text-requires
 put-text-requires c κs = search needs
 
@@ -27,7 +24,7 @@ array-share-prefix-out : tie.Need-array-share-prefix-out
 array-share-prefix-out c = search needs
 
 slice-aggregate-write-all : tie.Need-slice-aggregate-write-all
-slice-aggregate-write-all c = sym (length-take-le (c .before .before .put-text .result) _ (c .before .before .put-text .ensures .1))
+slice-aggregate-write-all c = sym (length-take-le (c .before .put-text .result) _ (c .before .put-text .ensures .1))
 
 write-all-requires : tie.Need-write-all-requires
 write-all-requires c κs = search needs
@@ -43,7 +40,6 @@ main-spec =
     read-full-requires
     array-share-prefix-input
     slice-aggregate-put-text
-    slice-aggregate-put-text-2
     put-text-requires
     array-share-prefix-out
     slice-aggregate-write-all

@@ -20,10 +20,10 @@ use Rattle.logic.specs.CandidateLaws.{stackOf-stack, model-long, model-in-range
 use Rattle.logic.specs.Search.{Searches}
 use Rattle.logic.specs.SearchLaws.{searches-single}
 use Rattle.logic.specs.RefusalLaws.{searches-answered}
 use Rattle.text.specs.Text.{textOf}
 use Rattle.text.specs.Puts.{Locations}
 use Rattle.text.specs.TextLaws.{text-no}
-use Rattle.shape.specs.Prints.{budget, blank, Prints}
+use Rattle.text.specs.Prints.{budget, blank, Prints}
 
 pub prints-single : (s x y : List ℕ) → Prints s x → Prints s y → x ≡ y
 prints-single s x y p q =

@@ -14,10 +14,10 @@ use Rattle.logic.specs.Computed.{laidOut, boundsOk, formulaOk, operandOk, nodeO
 use Rattle.logic.specs.Candidates.{digitsOf, bytesTo}
 use Rattle.logic.specs.Trials.{fitsAt, first, outcomeOf}
 use Rattle.logic.specs.SearchExamples.{Searched, searchedTest, searched-right, sameBytes, written, worked-out}
 use Rattle.text.specs.Text.{textOf}
 use Rattle.text.specs.Printed.{P1-printed}
 use Rattle.text.specs.TextExamples.{P1-text}
-use Rattle.shape.specs.Prints.{budget, blank, Prints}
+use Rattle.text.specs.Prints.{budget, blank, Prints}
 
 -- "P1's book is 02 01 0B 00 03 00 02 0E 00 03 00 01 01 01 03 01 01."
 abbrev P1-book : List ℕ
