@@ -1,11 +1,10 @@
--- What is printed for a book is one text, and how it comes about. Assumes nothing.
+-- What is printed for a book is one text, which leaves one output, and how it comes about. Assumes nothing.
 use mathlib.Core.Path.{_≡_, sym, ap, ap₂, _∙_}
 use mathlib.Core.List.{List, _++_}
 use mathlib.Core.Logic.{⊎-elim}
 use Prim.Native.Nat.{ℕ, _+_, _-_, _≤_}
 use native.Mathlib.Omega.{arith}
-use lib.ListN.{length, take, drop, getD, length-append, List·getD-append}
-use lib.Seq.{take-at}
+use lib.ListN.{length, drop, getD, length-append, List·getD-append}
 use Rattle.logic.specs.declared.Answer.{Answer}
 use Rattle.logic.specs.Numbers.{yes-number}
 use Rattle.logic.specs.Book.{stretch, varsOf, locsOf, Whole}
@@ -23,12 +22,22 @@ use Rattle.logic.specs.RefusalLaws.{searches-answered}
 use Rattle.text.specs.Text.{textOf}
 use Rattle.text.specs.Puts.{Locations}
 use Rattle.text.specs.TextLaws.{text-no}
-use Rattle.text.specs.Prints.{budget, blank, Prints}
+use Rattle.text.specs.Prints.{budget, blank, Prints, PutsText}
 
 pub prints-single : (s x y : List ℕ) → Prints s x → Prints s y → x ≡ y
 prints-single s x y p q =
     let same = searches-single s budget blank (p .answer) (q .answer) (p .model) (q .model) (p .search) (q .search) in
     p .shows ∙ ap₂ (λ (a : Answer) (m : List ℕ). textOf a (varsOf s) (locsOf s) m) (same .0) (same .1) ∙ sym (q .shows)
+
+-- two results that the statement allows are equal
+pub puts-text-single : (s o : List ℕ) (r k : ℕ) (x y : List ℕ) → PutsText s o r x → PutsText s o k y → (r ≡ k) × (x ≡ y)
+puts-text-single s o r k x y p q =
+    let same = prints-single s (p .text) (q .text) (p .prints) (q .prints) in
+    let long : r ≡ k = p .size ∙ ap length same ∙ sym (q .size) in
+    (long, p .output ∙ ap₂ (λ (t : List ℕ) (n : ℕ). t ++ drop n o) same long ∙ sym (q .output))
+
+pub text-within : {s o : List ℕ} {r : ℕ} {o′ : List ℕ} → PutsText s o r o′ → r ≤ length o′
+text-within {s} {o} {r} p = omega (arith, p .size, ap length (p .output), length-append (p .text) (drop r o))
 
 module _ (s : List ℕ) (a : Answer) (m : List ℕ) (q : Searches s budget blank a m) where
   -- a model that was found is one of an accepted book
@@ -49,19 +58,17 @@ module _ (s : List ℕ) (a : Answer) (m : List ℕ) (q : Searches s budget blank
       let few = found-whole e .bounds .locs in
       ⊎-elim (λ x. omega arith) (λ x. absurd (omega (arith, x .0))) (passes-at (byteChecks v n bytes) (v + n) (range .1) i (omega arith) .0)
 
-  -- what stands at the front of the output, by its length
-  pub prints-front : (v n : ℕ) → textOf a v n m ≡ textOf a (varsOf s) (locsOf s) m → (o : List ℕ) (r : ℕ) (o′ : List ℕ)
-      → (r ≡ length (textOf a v n m)) × (o′ ≡ textOf a v n m ++ drop (length (textOf a v n m)) o) → Prints s (take r o′) × (r ≤ length o′)
-  prints-front v n same o r o′ w =
-      let t = textOf a v n m in (
-        record {
-          answer = a;
-          model = m;
-          search = q;
-          shows = ap (take r) (w .1) ∙ take-at t (drop (length t) o) r (sym (w .0)) ∙ same;
-        },
-        omega (arith, w .0, ap length (w .1), length-append t (drop (length t) o)),
-      )
+  -- the answer's text, written at the front, is the text for the book
+  pub text-at-front : (v n : ℕ) → textOf a v n m ≡ textOf a (varsOf s) (locsOf s) m → {o : List ℕ} {r : ℕ} {o′ : List ℕ}
+      → (r ≡ length (textOf a v n m)) × (o′ ≡ textOf a v n m ++ drop (length (textOf a v n m)) o) → PutsText s o r o′
+  text-at-front v n same {o} w =
+      let t = textOf a v n m in
+      record {
+        text = t;
+        prints = record { answer = a; model = m; search = q; shows = same };
+        size = w .0;
+        output = w .1 ∙ ap (λ (k : ℕ). t ++ drop k o) (sym (w .0));
+      }
 
   -- without a model the bounds do not matter
   pub bounds-free : ¬ (a .number ≡ yes-number) → textOf a 0 0 m ≡ textOf a (varsOf s) (locsOf s) m

@@ -6,10 +6,10 @@ use logic::Answer;
 ghost use mathlib.Core.Path.{_≡_};
 ghost use mathlib.Core.List.{[], _∷_, _++_};
 ghost use Prim.Native.Nat.{_+_, _<_, _≤_};
-ghost use lib.ListN.{length, take, drop};
+ghost use lib.ListN.{length, drop};
 ghost use Rattle.text.specs.Text.{figure, decimal, numbered, firstLine, spaced, listed, line, valueText, modelText, textOf};
 ghost use Rattle.text.specs.Puts.{Puts, Room, Locations};
-ghost use Rattle.text.specs.Prints.{Prints};
+ghost use Rattle.text.specs.Prints.{PutsText};
 
 fn put(out: &mut [u8], at: usize, x: u8) -> usize
     requires { ⌜ Room at (x ∷ []) (now out) ⌝ }
@@ -137,7 +137,7 @@ fn text(a: Answer, model: &[u8], v: usize, n: usize, out: &mut [u8]) -> usize
 // Searches the book, writes what is printed for it to the front of the output, and gives back its length. Every text fits into
 // 256 bytes, so a caller has nothing to show.
 pub fn put_text(book: &[u8], out: &mut [u8; 256]) -> usize
-    ensures { λ r. ⌜ Prints (now (book .entry)) (take r (now (out .exit))) × (r ≤ length (now (out .exit))) ⌝ }
+    ensures { λ r. ⌜ PutsText (now (book .entry)) (now (out .entry)) r (now (out .exit)) ⌝ }
 {
     let mut model = [0u8; 16];
     let answer = search::search(book, 1000000, &mut model);

@@ -2,6 +2,7 @@
 use borrow.Author.Needs.{needs}
 use mathlib.Core.Path.{sym}
 use lib.Seq.{length-take-le}
+use Rattle.text.specs.PrintsLaws.{text-within}
 use Rattle.shape.proofs.main.Statement.{statement}
 use Rattle.shape.proofs.main.Tie as tie
 
@@ -21,10 +22,10 @@ put-text-requires : tie.Need-put-text-requires
 put-text-requires c κs = search needs
 
 array-share-prefix-out : tie.Need-array-share-prefix-out
-array-share-prefix-out c = search needs
+array-share-prefix-out c = text-within (c .put-text .ensures)
 
 slice-aggregate-write-all : tie.Need-slice-aggregate-write-all
-slice-aggregate-write-all c = sym (length-take-le (c .before .put-text .result) _ (c .before .put-text .ensures .1))
+slice-aggregate-write-all c = sym (length-take-le (c .before .put-text .result) _ (text-within (c .before .put-text .ensures)))
 
 write-all-requires : tie.Need-write-all-requires
 write-all-requires c κs = search needs

@@ -5,7 +5,7 @@ use mathlib.Core.Path.{ap}
 use mathlib.Core.List.{List}
 use Prim.Native.Nat.{ℕ, _≤_}
 use lib.ListN.{length, getD}
-use Rattle.text.specs.PrintsLaws.{found-whole, found-locations, prints-front, bounds-free, bounds-read}
+use Rattle.text.specs.PrintsLaws.{found-whole, found-locations, text-at-front, bounds-free, bounds-read}
 use Rattle.text.proofs.put_text.Statement.{statement}
 use Rattle.text.proofs.put_text.Tie as tie
 
@@ -26,7 +26,7 @@ returns c =
     let s = c .before .before .before .before .before .before .before .before .before .args .book .now in
     let q = c .before .before .before .before .before .before .search in
     let m = q .last .1 .1 .0 in
-    prints-front s (q .result) m (q .ensures) 0 0 (bounds-free s (q .result) m (q .ensures) (c .before .before .before .if1 .taken)) (c .before .before .before .before .before .before .before .before .before .args .out .now) _ _ (c .text .ensures)
+    text-at-front s (q .result) m (q .ensures) 0 0 (bounds-free s (q .result) m (q .ensures) (c .before .before .before .if1 .taken)) (c .text .ensures)
 
 part-requires : tie.Need-part-requires
 part-requires c κs =
@@ -77,8 +77,8 @@ returns-2 c =
     let m = q .last .1 .1 .0 in
     let v = c .before .before .before .before .wide in
     let n = c .before .before .wide2 in
-    prints-front s (q .result) m (q .ensures) (v .result) (n .result)
-    (bounds-read s (q .result) m (q .ensures) _ (v .result) (n .result) (c .before .before .before .before .before .before .before .part .ensures) (v .ensures .0) (n .ensures .0)) (c .before .before .before .before .before .before .before .before .before .before .before .before .before .before .args .out .now) _ _ (c .text2 .ensures)
+    text-at-front s (q .result) m (q .ensures) (v .result) (n .result)
+    (bounds-read s (q .result) m (q .ensures) _ (v .result) (n .result) (c .before .before .before .before .before .before .before .part .ensures) (v .ensures .0) (n .ensures .0)) (c .text2 .ensures)
 
 pub put-text-spec : {M : Type 1} → statement M
 put-text-spec =
