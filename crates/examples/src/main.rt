@@ -1,0 +1,25 @@
+// The program: the examples of document 01 and the worked examples of document 003, through the public calls, each beside the
+// second judge. It prints a line for each: its place in the document, the bounds v n p, the formula, what the document
+// states, whether the answer is that, and whether both judges agree on every candidate within the bounds.
+mod notation; // formulas, models and assignments as text
+mod second; // the second judge
+mod sweep; // both judges on every candidate
+mod report; // one example, one line
+mod scope; // document 01
+mod thesis; // document 003
+
+use report::Tally;
+
+fn main() {
+    report::say(
+        b"0 nil, E 0=0, N !E, T (E + N); > points to, ~ list, # different; ! not, & and, + or, - and not, @ septraction\n",
+    );
+    let start = Tally { lines: 0, right: 0 };
+    let t = thesis::chapter_7(thesis::chapter_4(thesis::chapter_3(thesis::chapter_2(scope::examples(
+        start,
+    )))));
+    report::say_number(t.lines);
+    report::say(b" examples, ");
+    report::say_number(t.right);
+    report::say(b" as stated with both judges agreeing\n");
+}

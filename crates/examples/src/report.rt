@@ -1,0 +1,212 @@
+// The examples' lines: each is run through the public calls and beside the second judge, and printed with what came of it.
+//
+// A line's fields are: its place in the document; the bounds v n p; the formula; what the document states of it: `found` or
+// `none` of all models within the bounds, `fits` or `not` of the model that follows. A fifth field has an assignment that
+// satisfies the formula's encoding and yields that model.
+use crate::notation;
+use crate::notation::front;
+use crate::notation::front_of_page;
+use crate::second;
+use crate::sweep;
+use crate::sweep::Swept;
+use contents::wide;
+ghost use Prim.Native.Nat.{_<_, _≤_};
+ghost use lib.ListN.{length};
+
+// More than there are candidates within the second judge's bounds.
+const BUDGET: u64 = 1000000;
+
+// Lines printed, and those of them on which everything is as stated and both judges agree.
+pub struct Tally {
+    pub lines: u64,
+    pub right: u64,
+}
+
+pub fn say(text: &[u8]) {
+    io::write_all(1, text);
+}
+
+pub fn say_number(x: u64) {
+    io::print_decimal(1, x);
+}
+
+fn counted(t: Tally, right: bool) -> Tally {
+    Tally {
+        lines: std::num::wrapping_add_u64(t.lines, 1),
+        right: std::num::wrapping_add_u64(t.right, right as u64),
+    }
+}
+
+fn say_stated(stated: bool) {
+    if stated {
+        say(b" | as stated");
+    } else {
+        say(b" | NOT AS STATED");
+    }
+}
+
+// Whether the search answers what the second judge has found, to the last byte.
+fn same_search(book: &[u8], bounds: [u8; 3], swept: Swept) -> bool {
+    let mut out = [0u8; 12];
+    let a = search::search(book, BUDGET, &mut out);
+    if swept.first == 0 {
+        return a.number == logic::NO && a.tried == swept.all;
+    }
+    let w = second::world_of(bounds[1], bounds[2], swept.stack);
+    let model = sweep::model_of(bounds[0], bounds[1], w, swept.heap);
+    a.number == logic::YES && a.tried == swept.first && check::same(&out, &model)
+}
+
+// Ends the line: whether the answer is as stated, and whether both judges agree on every candidate and on the search.
+fn end(t: Tally, stated: bool, book: &[u8], bounds: [u8; 3], swept: Swept) -> Tally {
+    let agree = swept.same == swept.all && same_search(book, bounds, swept);
+    say_stated(stated);
+    if agree {
+        say(b" | both judges agree on all ");
+    } else {
+        say(b" | THE JUDGES DIFFER, ");
+    }
+    say_number(swept.all);
+    say(b"\n");
+    counted(t, stated && agree)
+}
+
+// The stated number is the search's.
+fn searched(t: Tally, book: &[u8], bounds: [u8; 3], number: u64) -> Tally {
+    let wanted = [0u8; 12];
+    let swept = sweep::sweep(book, &wanted, bounds);
+    let mut out = [0u8; 12];
+    let a = search::search(book, BUDGET, &mut out);
+    say(b", tried ");
+    say_number(a.tried);
+    end(t, a.number == number, book, bounds, swept)
+}
+
+// The stated number is the judge's, for the model in the first `size` bytes.
+fn judged(
+    t: Tally,
+    book: &[u8],
+    bounds: [u8; 3],
+    wanted: &[u8; 12],
+    size: usize,
+    number: u64,
+) -> Tally {
+    let swept = sweep::sweep(book, wanted, bounds);
+    let a = model::judge(book, front(wanted, size));
+    let fits = a.number == logic::YES;
+    end(
+        t,
+        a.number == number && swept.fits == fits,
+        book,
+        bounds,
+        swept,
+    )
+}
+
+// The assignment in the first `count` bytes satisfies the book's encoding, and the model that is stated for it fits.
+fn assigned(
+    t: Tally,
+    book: &[u8],
+    bounds: [u8; 3],
+    values: &[u8; 12],
+    count: usize,
+    wanted: &[u8; 12],
+) -> Tally {
+    let swept = sweep::sweep(book, wanted, bounds);
+    let a = assign::assign(book, front(values, count));
+    end(t, a.number == logic::YES && swept.fits, book, bounds, swept)
+}
+
+// Where the byte c next stands, from `from` on; the text's end if it does not.
+fn find(text: &[u8], c: u8, from: usize) -> usize
+    requires { ⌜ from ≤ length (now text) ⌝ }
+    ensures { λ r. ⌜ (from ≤ r) × (r ≤ length (now (text .entry))) ⌝ }
+{
+    let mut i = from;
+    while i < text.len() {
+        if text[i] == c {
+            return i;
+        }
+        i += 1;
+    }
+    i
+}
+
+// The place behind the next byte c; the text's end if there is none.
+fn behind(text: &[u8], c: u8, from: usize) -> usize
+    requires { ⌜ from ≤ length (now text) ⌝ }
+    ensures { λ r. ⌜ (from ≤ r) × (r ≤ length (now (text .entry))) × (from < length (now (text .entry)) → from < r) ⌝ }
+{
+    let at = find(text, c, from);
+    if at < text.len() {
+        return at + 1;
+    }
+    at
+}
+
+// The line's field k, the first being field 0.
+fn field(line: &[u8], k: usize) -> &[u8] {
+    let mut start = 0;
+    for _ in 0..k {
+        start = behind(line, b'|', start);
+    }
+    let end = find(line, b'|', start);
+    &line[start..end]
+}
+
+// The number that a statement gives: 0 for `found` and `fits`, 1 for `none` and `not`.
+fn stated_number(statement: &[u8]) -> u64 {
+    if statement.len() < 2 {
+        return logic::NO;
+    }
+    if statement[1] == b'f' {
+        return logic::YES;
+    }
+    logic::NO
+}
+
+fn run_line(t: Tally, line: &[u8]) -> Tally {
+    say(line);
+    let mut bounds = [0u8; 12];
+    notation::bytes(field(line, 1), &mut bounds);
+    let b = [bounds[0], bounds[1], bounds[2]];
+    let mut page = [0u8; 256];
+    let size = notation::book(b, field(line, 2), &mut page);
+    let book = front_of_page(&page, size);
+    let mut wanted = [0u8; 12];
+    let model_size = notation::bytes(field(line, 3), &mut wanted);
+    let mut values = [0u8; 12];
+    let count = notation::bytes(field(line, 4), &mut values);
+    let number = stated_number(field(line, 3));
+    if model_size == 0 {
+        return searched(t, book, b, number);
+    }
+    if count == 0 {
+        return judged(t, book, b, &wanted, model_size, number);
+    }
+    assigned(t, book, b, &values, count, &wanted)
+}
+
+// Runs the examples of a text, one to a line.
+pub fn run(t: Tally, text: &[u8]) -> Tally {
+    let mut next = t;
+    let mut at = 0;
+    while at < text.len() {
+        let end = find(text, b'\n', at);
+        next = run_line(next, &text[at..end]);
+        at = behind(text, b'\n', at);
+    }
+    next
+}
+
+// Compares the bytes with those that the document states.
+pub fn compared(t: Tally, place: &[u8], got: &[u8], stated: &[u8]) -> Tally {
+    let right = check::same(got, stated);
+    say(place);
+    say(b" | ");
+    say_number(got.len() as u64);
+    say(b" bytes");
+    say_stated(right);
+    say(b"\n");
+    counted(t, right)
+}

@@ -1,0 +1,122 @@
+// Both judges on every candidate of a book, in the candidates' order.
+use crate::notation::front;
+use crate::second;
+use crate::second::World;
+use contents::wide;
+
+// What a sweep has seen: how many candidates, on how many of them the judges agree, the number of the first that fits by the
+// second judge, plus 1 (0: none), with its stack and heap, and whether the model that is looked for fits by the second judge.
+pub struct Swept {
+    pub all: u64,
+    pub same: u64,
+    pub first: u64,
+    pub stack: u8,
+    pub heap: u8,
+    pub fits: bool,
+}
+
+// Byte i of the model with this stack and heap, v variables and n locations; 0 behind its end.
+fn model_byte(v: u8, n: u8, w: World, h: u8, i: u8) -> u8 {
+    if i < v {
+        return second::digit(w.stack, w.stack_base, i + 1);
+    }
+    if n <= i - v {
+        return 0;
+    }
+    let d = second::digit(h, w.heap_base, i - v + 1);
+    if d == 0 {
+        return 255;
+    }
+    d - 1
+}
+
+pub fn model_of(v: u8, n: u8, w: World, h: u8) -> [u8; 12] {
+    let mut model = [0u8; 12];
+    for i in 0..12 {
+        model[wide(i)] = model_byte(v, n, w, h, i);
+    }
+    model
+}
+
+fn number_of(fits: bool) -> u64 {
+    if fits { logic::YES } else { logic::NO }
+}
+
+// One candidate more.
+fn counted(mut t: Swept, stack: u8, heap: u8, fits: bool, agree: bool) -> Swept {
+    t.all = std::num::wrapping_add_u64(t.all, 1);
+    if agree {
+        t.same = std::num::wrapping_add_u64(t.same, 1);
+    }
+    if fits && t.first == 0 {
+        t.first = t.all;
+        t.stack = stack;
+        t.heap = heap;
+    }
+    t
+}
+
+// Both judges on the model with the stack of w and this heap; `fits` is what the second says.
+fn compare(
+    t: Swept,
+    book: &[u8],
+    wanted: &[u8; 12],
+    bounds: [u8; 3],
+    w: World,
+    h: u8,
+    fits: bool,
+) -> Swept {
+    let model = model_of(bounds[0], bounds[1], w, h);
+    let size = wide(bounds[0]) + wide(bounds[1]);
+    let a = model::judge(book, front(&model, size));
+    let mut next = counted(t, w.stack, h, fits, a.number == number_of(fits));
+    if check::same(&model, wanted) {
+        next.fits = fits;
+    }
+    next
+}
+
+fn sweep_stack(t: Swept, book: &[u8], wanted: &[u8; 12], bounds: [u8; 3], stack: u8) -> Swept {
+    if book.len() < 17 {
+        return t;
+    }
+    let f = &book[14..];
+    let root = f.len() / 3 - 1;
+    let w = second::world_of(bounds[1], bounds[2], stack);
+    let mut sets = [0u8; 8000];
+    second::fill(&mut sets, f, w);
+    let heaps = w.heaps;
+    let mut next = t;
+    for h in 0..heaps {
+        next = compare(
+            next,
+            book,
+            wanted,
+            bounds,
+            w,
+            h,
+            second::member(&sets, root, wide(h)),
+        );
+    }
+    next
+}
+
+// Over all candidates of the book. The numbers of the stacks are below 4^3, and have no digit beyond the variables.
+pub fn sweep(book: &[u8], wanted: &[u8; 12], bounds: [u8; 3]) -> Swept {
+    let base = second::stack_base(bounds[1]);
+    let v = bounds[0];
+    let mut t = Swept {
+        all: 0,
+        same: 0,
+        first: 0,
+        stack: 0,
+        heap: 0,
+        fits: false,
+    };
+    for stack in 0..64 {
+        if second::above(stack, base, v) == 0 {
+            t = sweep_stack(t, book, wanted, bounds, stack);
+        }
+    }
+    t
+}
