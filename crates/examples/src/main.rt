@@ -14,12 +14,17 @@ fn main() {
     report::say(
         b"0 nil, E 0=0, N !E, T (E + N); > points to, ~ list, # different; ! not, & and, + or, - and not, @ septraction\n",
     );
-    let start = Tally { lines: 0, right: 0 };
-    let t = thesis::chapter_7(thesis::chapter_4(thesis::chapter_3(thesis::chapter_2(scope::examples(
-        start,
-    )))));
-    report::say_number(t.lines);
+    let start = Tally {
+        lines: 0,
+        right: 0,
+        beyond: 0,
+    };
+    let scope = scope::models(scope::bytes_of_p1(start));
+    let t = thesis::chapter_7(thesis::chapter_4(thesis::chapter_3(thesis::chapter_2(scope))));
+    io::print_decimal(1, t.lines);
     report::say(b" examples, ");
-    report::say_number(t.right);
-    report::say(b" as stated with both judges agreeing\n");
+    io::print_decimal(1, t.right);
+    report::say(b" as stated with both judges agreeing, ");
+    io::print_decimal(1, t.beyond);
+    report::say(b" of them beyond the second judge\n");
 }

@@ -1,6 +1,6 @@
 // The notation of the examples, and the books, models and assignments that are made of it.
 //
-// Formulas: 0 is nil, x y z are variables 1 2 3. x=y, x#y (different), x>y (points to), x~y (list). !a is not; (a & b) and,
+// Formulas: 0 is nil, x y z u v are variables 1 to 5. x=y, x#y (different), x>y (points to), x~y (list). !a is not; (a & b) and,
 // (a + b) or, (a - b) a and not b, (a * b), (a @ b) septraction; each pair in parentheses, and no two negations in a row.
 // E is nil = nil, N is !E, T is (E + N), as true is written in document 003, 7.3.1.
 //
@@ -137,12 +137,8 @@ impl Draft {
         rest.without_root().node(op, a, b).whole()
     }
 
-    fn empty(self) -> Self {
-        self.node(1, 0, 0)
-    }
-
     fn not_empty(self) -> Self {
-        self.wait(b'!').empty().whole()
+        self.wait(b'!').node(1, 0, 0).whole()
     }
 
     fn take(self, c: u8) -> Self {
@@ -151,13 +147,15 @@ impl Draft {
             b'x' => self.variable(1),
             b'y' => self.variable(2),
             b'z' => self.variable(3),
+            b'u' => self.variable(4),
+            b'v' => self.variable(5),
             b'=' => self.relate(1),
             b'#' => self.relate(2),
             b'>' => self.relate(3),
             b'~' => self.relate(4),
-            b'E' => self.empty().whole(),
+            b'E' => self.node(1, 0, 0).whole(),
             b'N' => self.not_empty().whole(),
-            b'T' => self.wait(b'(').wait(b'+').empty().not_empty().close(),
+            b'T' => self.wait(b'(').wait(b'+').node(1, 0, 0).not_empty().close(),
             b'(' | b'!' | b'&' | b'+' | b'-' | b'*' | b'@' => self.wait(c),
             b')' => self.close(),
             _ => self,
@@ -227,20 +225,6 @@ pub fn front_of_page(page: &[u8; 256], n: usize) -> &[u8] {
     front(page, n)
 }
 
-fn is_byte(c: u8) -> bool {
-    c == b'-' || b'0' <= c && c <= b'9'
-}
-
-fn byte_of(c: u8) -> u8 {
-    if c == b'-' {
-        return 255;
-    }
-    if c < b'0' {
-        return 0;
-    }
-    c - b'0'
-}
-
 // The bytes of a model or an assignment, at most twelve; gives back their count.
 pub fn bytes(text: &[u8], out: &mut [u8; 12]) -> usize {
     let mut count = 0;
@@ -257,9 +241,15 @@ fn put_byte(c: u8, out: &mut [u8; 12], count: usize) -> usize {
     if 12 <= count {
         return count;
     }
-    if is_byte(c) {
-        out[count] = byte_of(c);
-        return count + 1;
+    match c {
+        b'-' => {
+            out[count] = 255;
+            count + 1
+        }
+        b'0'..=b'9' => {
+            out[count] = c - b'0';
+            count + 1
+        }
+        _ => count,
     }
-    count
 }

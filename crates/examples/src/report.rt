@@ -16,24 +16,23 @@ ghost use lib.ListN.{length};
 // More than there are candidates within the second judge's bounds.
 const BUDGET: u64 = 1000000;
 
-// Lines printed, and those of them on which everything is as stated and both judges agree.
+// Lines printed; those of them that are as stated, with both judges agreeing where both can judge; and those that the second
+// judge cannot judge.
 pub struct Tally {
     pub lines: u64,
     pub right: u64,
+    pub beyond: u64,
 }
 
 pub fn say(text: &[u8]) {
     io::write_all(1, text);
 }
 
-pub fn say_number(x: u64) {
-    io::print_decimal(1, x);
-}
-
-fn counted(t: Tally, right: bool) -> Tally {
+fn counted(t: Tally, right: bool, beyond: bool) -> Tally {
     Tally {
         lines: std::num::wrapping_add_u64(t.lines, 1),
         right: std::num::wrapping_add_u64(t.right, right as u64),
+        beyond: std::num::wrapping_add_u64(t.beyond, beyond as u64),
     }
 }
 
@@ -59,16 +58,25 @@ fn same_search(book: &[u8], bounds: [u8; 3], swept: Swept) -> bool {
 
 // Ends the line: whether the answer is as stated, and whether both judges agree on every candidate and on the search.
 fn end(t: Tally, stated: bool, book: &[u8], bounds: [u8; 3], swept: Swept) -> Tally {
-    let agree = swept.same == swept.all && same_search(book, bounds, swept);
     say_stated(stated);
+    if !second::can_judge(bounds) {
+        say(b" | beyond the second judge\n");
+        return counted(t, stated, true);
+    }
+    let agree = swept.same == swept.all && same_search(book, bounds, swept);
     if agree {
         say(b" | both judges agree on all ");
     } else {
         say(b" | THE JUDGES DIFFER, ");
     }
-    say_number(swept.all);
+    io::print_decimal(1, swept.all);
     say(b"\n");
-    counted(t, stated && agree)
+    counted(t, stated && agree, false)
+}
+
+// Whether the second judge says the same of the model that was looked for.
+fn same_model(bounds: [u8; 3], swept: Swept, fits: bool) -> bool {
+    !second::can_judge(bounds) || swept.fits == fits
 }
 
 // The stated number is the search's.
@@ -78,7 +86,7 @@ fn searched(t: Tally, book: &[u8], bounds: [u8; 3], number: u64) -> Tally {
     let mut out = [0u8; 12];
     let a = search::search(book, BUDGET, &mut out);
     say(b", tried ");
-    say_number(a.tried);
+    io::print_decimal(1, a.tried);
     end(t, a.number == number, book, bounds, swept)
 }
 
@@ -93,14 +101,8 @@ fn judged(
 ) -> Tally {
     let swept = sweep::sweep(book, wanted, bounds);
     let a = model::judge(book, front(wanted, size));
-    let fits = a.number == logic::YES;
-    end(
-        t,
-        a.number == number && swept.fits == fits,
-        book,
-        bounds,
-        swept,
-    )
+    let same = same_model(bounds, swept, a.number == logic::YES);
+    end(t, a.number == number && same, book, bounds, swept)
 }
 
 // The assignment in the first `count` bytes satisfies the book's encoding, and the model that is stated for it fits.
@@ -204,9 +206,9 @@ pub fn compared(t: Tally, place: &[u8], got: &[u8], stated: &[u8]) -> Tally {
     let right = check::same(got, stated);
     say(place);
     say(b" | ");
-    say_number(got.len() as u64);
+    io::print_decimal(1, got.len() as u64);
     say(b" bytes");
     say_stated(right);
     say(b"\n");
-    counted(t, right)
+    counted(t, right, false)
 }

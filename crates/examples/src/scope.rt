@@ -54,7 +54,7 @@ const P1_ENCODING: [u8; 44] = [
     0,
 ];
 
-fn bytes_of_p1(t: Tally) -> Tally {
+pub fn bytes_of_p1(t: Tally) -> Tally {
     let book = P1_BOOK;
     let mut page = [0u8; 256];
     let size = notation::book([1, 1, 1], b"x>x", &mut page);
@@ -73,7 +73,7 @@ fn bytes_of_p1(t: Tally) -> Tally {
     )
 }
 
-fn models(t: Tally) -> Tally {
+pub fn models(t: Tally) -> Tally {
     run(
         t,
         b"\
@@ -96,8 +96,4 @@ fn models(t: Tally) -> Tally {
 01 P14 | 2 2 2 | y>x | not 12;2-
 ",
     )
-}
-
-pub fn examples(t: Tally) -> Tally {
-    models(bytes_of_p1(t))
 }

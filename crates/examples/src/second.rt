@@ -22,6 +22,11 @@ pub struct World {
     pub named: u8,
 }
 
+// Whether the second judge can judge within these bounds v n p.
+pub fn can_judge(bounds: [u8; 3]) -> bool {
+    bounds[0] <= 3 && bounds[1] <= 3
+}
+
 // What is left of x above its k lowest digits.
 pub fn above(x: u8, base: u8, k: u8) -> u8 {
     if base == 0 {
@@ -183,15 +188,11 @@ fn is_list(x: u8, y: u8, h: u8, w: World) -> bool {
     t.at == y && t.left == allocated(h, base)
 }
 
-fn points(x: u8, y: u8, h: u8, base: u8) -> bool {
-    x != 0 && allocated(h, base) == bit(x) && value(h, base, x) == bit(y)
-}
-
 fn atom_fits(op: u8, x: u8, y: u8, h: u8, w: World) -> bool {
     match op {
         1 => x == y && h == 0,
         2 => x != y && h == 0,
-        3 => points(x, y, h, w.heap_base),
+        3 => x != 0 && allocated(h, w.heap_base) == bit(x) && value(h, w.heap_base, x) == bit(y),
         _ => is_list(x, y, h, w),
     }
 }
@@ -244,19 +245,15 @@ fn fill_without(sets: &mut [u8; 8000], k: usize, g: u8, b: usize, w: World) {
     }
 }
 
-fn fill_for(sets: &mut [u8; 8000], k: usize, op: u8, g: u8, b: usize, w: World) {
-    if op == 9 {
-        fill_with(sets, k, g, b, w);
-    } else {
-        fill_without(sets, k, g, b, w);
-    }
-}
-
 fn fill_pairs(sets: &mut [u8; 8000], k: usize, op: u8, a: usize, b: usize, w: World) {
     let heaps = w.heaps;
     for g in 0..heaps {
         if member(sets, a, wide(g)) {
-            fill_for(sets, k, op, g, b, w);
+            if op == 9 {
+                fill_with(sets, k, g, b, w);
+            } else {
+                fill_without(sets, k, g, b, w);
+            }
         }
     }
 }

@@ -38,27 +38,9 @@ pub fn model_of(v: u8, n: u8, w: World, h: u8) -> [u8; 12] {
     model
 }
 
-fn number_of(fits: bool) -> u64 {
-    if fits { logic::YES } else { logic::NO }
-}
-
-// One candidate more.
-fn counted(mut t: Swept, stack: u8, heap: u8, fits: bool, agree: bool) -> Swept {
-    t.all = std::num::wrapping_add_u64(t.all, 1);
-    if agree {
-        t.same = std::num::wrapping_add_u64(t.same, 1);
-    }
-    if fits && t.first == 0 {
-        t.first = t.all;
-        t.stack = stack;
-        t.heap = heap;
-    }
-    t
-}
-
-// Both judges on the model with the stack of w and this heap; `fits` is what the second says.
+// One candidate more, with the stack of w and this heap: both judges on it; `fits` is what the second says.
 fn compare(
-    t: Swept,
+    mut t: Swept,
     book: &[u8],
     wanted: &[u8; 12],
     bounds: [u8; 3],
@@ -69,11 +51,19 @@ fn compare(
     let model = model_of(bounds[0], bounds[1], w, h);
     let size = wide(bounds[0]) + wide(bounds[1]);
     let a = model::judge(book, front(&model, size));
-    let mut next = counted(t, w.stack, h, fits, a.number == number_of(fits));
-    if check::same(&model, wanted) {
-        next.fits = fits;
+    t.all = std::num::wrapping_add_u64(t.all, 1);
+    if a.number == logic::NO && !fits || a.number == logic::YES && fits {
+        t.same = std::num::wrapping_add_u64(t.same, 1);
     }
-    next
+    if fits && t.first == 0 {
+        t.first = t.all;
+        t.stack = w.stack;
+        t.heap = h;
+    }
+    if check::same(&model, wanted) {
+        t.fits = fits;
+    }
+    t
 }
 
 fn sweep_stack(t: Swept, book: &[u8], wanted: &[u8; 12], bounds: [u8; 3], stack: u8) -> Swept {
@@ -101,7 +91,8 @@ fn sweep_stack(t: Swept, book: &[u8], wanted: &[u8; 12], bounds: [u8; 3], stack:
     next
 }
 
-// Over all candidates of the book. The numbers of the stacks are below 4^3, and have no digit beyond the variables.
+// Over all candidates of the book, if the second judge can judge them. The numbers of the stacks are below 4^3, and have no
+// digit beyond the variables.
 pub fn sweep(book: &[u8], wanted: &[u8; 12], bounds: [u8; 3]) -> Swept {
     let base = second::stack_base(bounds[1]);
     let v = bounds[0];
@@ -113,6 +104,9 @@ pub fn sweep(book: &[u8], wanted: &[u8; 12], bounds: [u8; 3]) -> Swept {
         heap: 0,
         fits: false,
     };
+    if !second::can_judge(bounds) {
+        return t;
+    }
     for stack in 0..64 {
         if second::above(stack, base, v) == 0 {
             t = sweep_stack(t, book, wanted, bounds, stack);

@@ -1,4 +1,4 @@
-// Document 003's worked examples, chapter by chapter, each with its place there. Its variables are named x y z here, and a
+// Document 003's worked examples, chapter by chapter, each with its place there. Its variables are named x y z u v here, and a
 // list's path bound is n, so that no chain within the bounds is too long.
 use crate::report::Tally;
 use crate::report::run;
@@ -9,6 +9,7 @@ pub fn chapter_2(t: Tally) -> Tally {
     run(
         t,
         b"\
+003 Figure 2.1 | 5 6 6 | ((x~y * u~v) * z>y) | fits 14456;23446-
 003 Example 2.2, phi 1 | 3 3 3 | (x>y * x>z) | none
 003 Example 2.2, phi 2 | 3 3 3 | (x>y * z>y) | found
 003 Example 2.2, x and z differ | 3 3 3 | ((x>y * z>y) * x=z) | none
@@ -50,6 +51,8 @@ pub fn chapter_3(t: Tally) -> Tally {
 003 3.3, too few variables to split | 2 3 3 | (x~0 & ((N * N) * N)) | none
 003 3.3, enough variables to split | 3 3 3 | (x~0 & ((N * N) * N)) | found
 003 Figure 3.5, an unnamed location | 1 3 3 | (x~0 & ((N * N) * N)) | not 1;230
+003 Figure 3.5, location 4 unnamed | 3 5 5 | (x~z & ((N * N) * N)) | not 125;2345-
+003 Figure 3.5, location 4 named | 4 5 5 | (x~z & ((N * N) * N)) | fits 1254;2345-
 003 Example 3.4, a pointer to itself | 1 2 2 | x>x | fits 1;1-
 003 Example 3.4, overlaid lists | 2 3 3 | (N * N) | not 12;33-
 003 Example 3.4, a cycle | 1 2 2 | ((x~x + x~0) + (N * N)) | not 1;21
@@ -57,10 +60,13 @@ pub fn chapter_3(t: Tally) -> Tally {
 003 Example 3.6, a list of three links | 1 3 3 | ((x~0 * x#0) - x>0) | fits 1;230
 003 Example 3.6, its reduction | 1 3 3 | ((x~0 * x#0) - x>0) | fits 1;20-
 003 Example 3.7, too few locations | 2 3 3 | (((x~y * x#y) - x>y) * ((y~x * y#x) - y>x)) | none
+003 Example 3.7, four locations | 2 4 4 | (((x~y * x#y) - x>y) * ((y~x * y#x) - y>x)) | found
 003 Example 3.8, n = 2 | 0 1 1 | (N * N) | none
 003 Example 3.8, n = 2 | 0 2 2 | (N * N) | found
 003 Example 3.8, n = 3 | 0 2 2 | ((N * N) * N) | none
 003 Example 3.8, n = 3 | 0 3 3 | ((N * N) * N) | fits 123
+003 Example 3.8, n = 4 | 0 3 3 | (((N * N) * N) * N) | none
+003 Example 3.8, n = 4 | 0 4 4 | (((N * N) * N) * N) | fits 1234
 ",
     )
 }

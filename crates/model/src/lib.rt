@@ -30,7 +30,7 @@ fn is_in_range(v: usize, n: usize, i: usize, x: u8) -> bool
 }
 
 // Whether the bytes are a model over v variables and n locations: 17, 18.
-pub fn in_range(v: usize, n: usize, model: &[u8]) -> Answer
+fn in_range(v: usize, n: usize, model: &[u8]) -> Answer
     requires { ⌜ (v ≤ most) × (n ≤ most) ⌝ }
     ensures { λ r. ⌜ Answers (modelChecks v n (now (model .entry))) Yes r ⌝ }
 {

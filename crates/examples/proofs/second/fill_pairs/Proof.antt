@@ -19,8 +19,11 @@ wide-requires c κs = search needs
 member-requires : tie.Need-member-requires Inv-loop μ-loop
 member-requires c κs = search needs
 
-fill-for-requires : tie.Need-fill-for-requires Inv-loop μ-loop
-fill-for-requires c κs = search needs
+fill-with-requires : tie.Need-fill-with-requires Inv-loop μ-loop
+fill-with-requires c κs = search needs
+
+fill-without-requires : tie.Need-fill-without-requires Inv-loop μ-loop
+fill-without-requires c κs = search needs
 
 add-g : tie.Need-add-g Inv-loop μ-loop
 add-g c = search needs
@@ -43,7 +46,8 @@ fill-pairs-spec =
     loop-holds
     wide-requires
     member-requires
-    fill-for-requires
+    fill-with-requires
+    fill-without-requires
     add-g
     loop-less
     loop-again

@@ -19,6 +19,12 @@ stack-base-requires c κs = search needs
 array-read-v : tie.Need-array-read-v Inv-loop μ-loop
 array-read-v c = search needs
 
+can-judge-requires : tie.Need-can-judge-requires Inv-loop μ-loop
+can-judge-requires c κs = search needs
+
+returns : tie.Need-returns Inv-loop μ-loop
+returns c = search needs
+
 loop-holds : tie.Need-loop-holds Inv-loop μ-loop
 loop-holds c = search needs
 
@@ -37,8 +43,8 @@ loop-less c = search needs
 loop-again : tie.Need-loop-again Inv-loop μ-loop
 loop-again c = search needs
 
-returns : tie.Need-returns Inv-loop μ-loop
-returns c = search needs
+returns-2 : tie.Need-returns-2 Inv-loop μ-loop
+returns-2 c = search needs
 
 pub sweep-spec : {M : Type 1} → statement M
 sweep-spec =
@@ -49,10 +55,12 @@ sweep-spec =
     array-read-stack-base
     stack-base-requires
     array-read-v
+    can-judge-requires
+    returns
     loop-holds
     above-requires
     sweep-stack-requires
     add-stack
     loop-less
     loop-again
-    returns)
+    returns-2)
