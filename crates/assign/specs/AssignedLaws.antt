@@ -17,7 +17,7 @@ use Rattle.logic.specs.Tests.{andb, pick, inPart}
 use Rattle.logic.specs.Model.{stackIn, Verdict}
 use Rattle.logic.specs.ModelLaws.{verdict-single}
 use Rattle.cells.specs.Sets.{in-past, in-nothing}
-use Rattle.rows.specs.Assignment.{InRange}
+use Rattle.rows.specs.Assignment.{ValuesInRange}
 use Rattle.rows.specs.Assigned.{arrayIn, setIn, assigned, ValueOk, valueChecks, assignmentChecks, SatisfiesBook, assignChecks, Assigns}
 use Rattle.assign.specs.UnpackLaws.{rows-fit}
 
@@ -85,7 +85,7 @@ module _ (v n a b : ℕ) (q : List ℕ) (ok : Passes (assignmentChecks v n a b q
       go (yes l) = in-past n (getD q (v + a * n + j) 0) ℓ (set-low j l) m
       go (no l) = ap (λ (x : ℕ). inPart x ℓ) (List·getD-eq-default q 0 {n = v + a * n + j} (omega (arith, assignment-long))) ∙ in-nothing ℓ
 
-  pub assigned-in-range : InRange v n (assigned v n a q)
+  pub assigned-in-range : ValuesInRange v n (assigned v n a q)
   unfolding stackIn inPart
   assigned-in-range =
       record {

@@ -15,7 +15,7 @@ use Rattle.logic.specs.Tests.{andb, pick, inPart}
 use Rattle.logic.specs.Model.{stackIn}
 use Rattle.logic.specs.Digits.{numOf-lt, digit-num}
 use Rattle.cells.specs.Sets.{in-past}
-use Rattle.rows.specs.Assignment.{Set, Assignment, InRange}
+use Rattle.rows.specs.Assignment.{Set, Assignment, ValuesInRange}
 use Rattle.rows.specs.Symbols.{Agree}
 use Rattle.rows.specs.Assigned.{arrayIn, setIn, assigned, ValueOk, valueChecks, assignmentChecks}
 use Rattle.assign.specs.UnpackLaws.{rows-fit}
@@ -46,7 +46,7 @@ set-byte n S z p = fun-ext λ ℓ. go ℓ
     go zero = sym z
     go (suc i) = at i (decLt i n)
 
-module _ (v n a b : ℕ) (ν : Assignment) (k : InRange v n ν) where
+module _ (v n a b : ℕ) (ν : Assignment) (k : ValuesInRange v n ν) where
   byte-at : (i : ℕ) → i < v + a * n + b → getD (bytesOf v n a b ν) i 0 ≡ byteOf v n a ν i
   unfolding bytesOf
   byte-at i l = list-at (v + a * n + b) (byteOf v n a ν) i l

@@ -14,7 +14,7 @@ use Rattle.logic.specs.Checks.{upto, Passes}
 use Rattle.logic.specs.CheckLaws.{passes-none, passes-more}
 use Rattle.logic.specs.Tests.{orb, pick}
 use Rattle.logic.specs.Model.{stackIn, heapIn, digitOf, ByteOk, byteChecks, modelChecks}
-use Rattle.rows.specs.Assignment.{InRange, on}
+use Rattle.rows.specs.Assignment.{ValuesInRange, on}
 use Rattle.rows.specs.OnSet.{on-other, on-member}
 use Rattle.rows.specs.Assigned.{arrayIn, setIn, assigned}
 use Rattle.assign.specs.ModelOf.{listOf, modelOf}
@@ -38,7 +38,7 @@ passes-each v n m e f = (e, up (v + n) f)
     up zero g = passes-none (byteChecks v n m)
     up (suc k) g = passes-more (byteChecks v n m) k (up k (λ i l. g i (omega arith))) (g k (omega arith), tt)
 
-module _ (v n a : ℕ) (q : List ℕ) (k : InRange v n (assigned v n a q)) (few : n < 255) (some : 0 < a) where
+module _ (v n a : ℕ) (q : List ℕ) (k : ValuesInRange v n (assigned v n a q)) (few : n < 255) (some : 0 < a) where
   byte-of : (i : ℕ) → i < v + n → getD (modelOf v n a q) i 0 ≡ pick (orb (ltb i v) (setIn v n a q 0 (suc (i - v)))) (getD q i 0) 255
   unfolding modelOf
   byte-of i l = list-at (v + n) (λ i. pick (orb (ltb i v) (setIn v n a q 0 (suc (i - v)))) (getD q i 0) 255) i l

@@ -11,7 +11,7 @@ use Rattle.logic.specs.Table.{Sound, tree}
 use Rattle.logic.specs.Model.{stackIn}
 use Rattle.logic.specs.Book.{most, nodes, root}
 use Rattle.cells.specs.Cells.{cells, Unnamed}
-use Rattle.rows.specs.Assignment.{Assignment, InRange}
+use Rattle.rows.specs.Assignment.{Assignment, ValuesInRange}
 use Rattle.rows.specs.Table.{arraysIn, setsIn}
 use Rattle.rows.specs.Condition.{Condition}
 use Rattle.rows.specs.Bounds.{mostArrays, mostSets}
@@ -39,7 +39,7 @@ pub record Ready (g : Setting) (q : List ℕ) (arrays : List (List ℕ)) : Type 
   pub few-arrays : g .arrays ≤ mostArrays
   pub base : g .base ≡ g .v + g .arrays * g .n
   pub long : length q ≡ g .base + g .sets
-  pub in-range : InRange (g .v) (g .n) (given g q)
+  pub in-range : ValuesInRange (g .v) (g .n) (given g q)
   pub set-low : (j : ℕ) → j < g .sets → getD q (g .base + j) 0 < 2 ^ g .n
   pub rows : (i : ℕ) → i < mostArrays → length (getD arrays i []) ≡ most
   pub unpacked : (i : ℕ) → i < g .arrays → valuesIn arrays i ≡ arrayIn (g .v) (g .n) (g .arrays) q i

@@ -2,7 +2,7 @@
 -- the statements of the judge of assignments and of the model judge. Assumes nothing.
 use mathlib.Core.Path.{_≡_, refl, sym, subst₂, _∙_, ap, ap₂}
 use mathlib.Core.List.{List}
-use mathlib.Core.Logic.{_⊎_, inl, inr, ⊎-elim}
+use mathlib.Core.Logic.{inl}
 use Prim.Native.Nat.{ℕ, suc, _+_, _-_, _*_, _<_}
 use native.Mathlib.Decide.{decLt, ℕ-discrete}
 use native.Mathlib.Omega.{arith}
@@ -11,13 +11,13 @@ use lib.Seq.{ext-getD}
 use borrow.Author.Tests.{lt-ltb, eq-eqb, ne-eqb}
 use Rattle.logic.specs.declared.Answer.{Answer}
 use Rattle.logic.specs.Numbers.{answer}
-use Rattle.logic.specs.Checks.{Checks, done, check, _then_, Passes, Answers}
-use Rattle.logic.specs.CheckLaws.{Yes, Refuses, passes-then, answers-passed, refuses-upto}
+use Rattle.logic.specs.Checks.{check, Passes}
+use Rattle.logic.specs.CheckLaws.{Refuses, passes-then, answers-passed, refuses-upto}
 use Rattle.logic.specs.Heap.{Map}
-use Rattle.logic.specs.Book.{bookFormula, varsOf, locsOf, pathOf, bookChecks, Reads, Accepted}
-use Rattle.logic.specs.BookLaws.{accepted-whole, reads-yes}
-use Rattle.logic.specs.Model.{stackIn, heapIn, digitOf, byteChecks, modelChecks, judgeChecks, Fits, FitsBook, Verdict, Judges}
-use Rattle.logic.specs.ModelLaws.{model-stack, model-heap}
+use Rattle.logic.specs.Book.{bookFormula, varsOf, locsOf, pathOf, bookChecks, Accepted}
+use Rattle.logic.specs.BookLaws.{accepted-whole, book-zero}
+use Rattle.logic.specs.Model.{stackIn, heapIn, digitOf, modelChecks, judgeChecks, Fits, FitsBook, Verdict, Judges}
+use Rattle.logic.specs.ModelLaws.{model-stack, model-heap, verdict-zero, model-refuses}
 use Rattle.rows.specs.Assignment.{on}
 use Rattle.rows.specs.Table.{arrays, sets, Encodable}
 use Rattle.rows.specs.LastRow.{satisfies-condition}
@@ -30,40 +30,11 @@ use Rattle.assign.specs.ModelOfLaws.{model-of-stack, model-of-heap, mode
 use Rattle.assign.specs.BytesOf.{bytesOf}
 use Rattle.assign.specs.BytesOfLaws.{bytes-agree, bytes-pass}
 
--- number 0 is no refusal's: every part holds, and what is left says the rest
-answers-zero : (c : Checks) (R : Answer → Type 0) (a : Answer) → Refuses c → Answers c R a → a .number ≡ 0 → Passes c × R a
-unfolding Refuses Passes Answers
-answers-zero done R a w q e = (tt, q)
-answers-zero (check P m k c) R a w q e =
-    ⊎-elim (λ x. let z : m ≡ 0 = ap (λ (r : Answer). r .number) (sym (x .1)) ∙ e in absurd (omega (arith, w .0)))
-    (λ x. let y = answers-zero c R a (w .1) (x .1) e in ((x .0, y .0), y .1)) q
-
-verdict-zero : (P : Type 0) (a : Answer) → Verdict P a → a .number ≡ 0 → P
-verdict-zero P a q e = ⊎-elim (λ x. x .0) (λ x. let z : _≡_ {A = ℕ} 1 0 = ap (λ (r : Answer). r .number) (sym (x .1)) ∙ e in absurd (omega arith)) q
-
--- an answer to c's parts and then d's: c refuses, or c's parts hold and it is an answer to d's
-answers-split : (c d : Checks) (R : Answer → Type 0) (a : Answer) → Answers (c then d) R a → (Answers c Yes a × (¬ Passes c)) ⊎ (Passes c × Answers d R a)
-unfolding Passes Answers _then_
-answers-split done d R a q = inr (tt, q)
-answers-split (check P m k c) d R a q =
-    ⊎-elim (λ x. inl (inl x, λ p. x .0 (p .0)))
-    (λ x. ⊎-elim (λ y. inl (inr (x .0, y .0), λ p. y .1 (p .1))) (λ y. inr ((x .0, y .0), y .1)) (answers-split c d R a (x .1))) q
-
--- number 0 where a book is read first: the book is accepted, and the rest passes
-book-zero : (s : List ℕ) (d : Checks) (R : Answer → Type 0) (a : Answer) → Refuses d → Answers (bookChecks s then d) R a → a .number ≡ 0 → Passes (bookChecks s) × (Passes d × R a)
-unfolding Reads Accepted
-book-zero s d R a w q e =
-    ⊎-elim (λ x. absurd (x .1 (reads-yes s a (x .0) e))) (λ x. (x .0, answers-zero d R a w (x .1) e)) (answers-split (bookChecks s) d R a q)
-
 assignment-refuses : (s q : List ℕ) → Refuses (check (Encodable (bookFormula s)) 19 0 (assignmentChecks (varsOf s) (locsOf s) (arrays (bookFormula s)) (sets (bookFormula s)) q))
 unfolding Refuses
 assignment-refuses s q =
     let a = arrays (bookFormula s) in
     (omega arith, (omega arith, refuses-upto (valueChecks (varsOf s) (locsOf s) a q) (λ i. (omega arith, tt)) (varsOf s + a * locsOf s + sets (bookFormula s))))
-
-model-refuses : (v n : ℕ) (m : List ℕ) → Refuses (modelChecks v n m)
-unfolding Refuses
-model-refuses v n m = (omega arith, refuses-upto (byteChecks v n m) (λ i. (omega arith, tt)) (v + n))
 
 few-locations : (s : List ℕ) → Passes (bookChecks s) → locsOf s < 255
 few-locations s ok = let w = accepted-whole s (unfold Accepted in ok) in omega (arith, w .bounds .locs)

@@ -8,8 +8,8 @@ use native.Mathlib.Omega.{arith}
 use lib.ListN.{length, getD, take, drop, length-take, length-drop}
 use Rattle.logic.specs.declared.Answer.{Answer}
 use Rattle.logic.specs.Numbers.{answer}
-use Rattle.logic.specs.Checks.{_then_, upto, Passes, Answers}
-use Rattle.logic.specs.CheckLaws.{Single, Yes, Refuses, answers-single, yes-single, passes-of-yes, fails-of-refused, then-passes, passes-at, answers-refused, answers-after, refuses-then, refuses-upto}
+use Rattle.logic.specs.Checks.{Checks, _then_, upto, Passes, Answers}
+use Rattle.logic.specs.CheckLaws.{Single, Yes, Refuses, answers-single, yes-single, answers-zero, passes-of-yes, fails-of-refused, answers-split, then-passes, passes-at, answers-refused, answers-after, refuses-then, refuses-upto}
 use Rattle.logic.specs.Table.{Sound}
 use Rattle.logic.specs.Book.{offset, size, stretch, LaidOut, Given, varsOf, formulaOf, nodes, root, contentsChecks, bodyChecks, nodeChecks, useChecks, tableChecks, bookChecks, Reads, Accepted, Whole, Body, Placed}
 
@@ -102,6 +102,12 @@ book-refuses s =
 pub reads-yes : (s : List ℕ) (a : Answer) → Reads s a → a .number ≡ 0 → Accepted s
 unfolding Reads Accepted
 reads-yes s a q e = passes-of-yes (bookChecks s) a (book-refuses s) q e
+
+-- number 0 where a book is read first: the book is accepted, and the rest passes
+pub book-zero : (s : List ℕ) (d : Checks) (R : Answer → Type 0) (a : Answer) → Refuses d → Answers (bookChecks s then d) R a → a .number ≡ 0 → Passes (bookChecks s) × (Passes d × R a)
+unfolding Reads Accepted
+book-zero s d R a w q e =
+    ⊎-elim (λ x. absurd (x .1 (reads-yes s a (x .0) e))) (λ x. (x .0, answers-zero d R a w (x .1) e)) (answers-split (bookChecks s) d R a q)
 
 pub reads-no : (s : List ℕ) (a : Answer) → Reads s a → ¬ (a .number ≡ 0) → ¬ Accepted s
 unfolding Reads Accepted

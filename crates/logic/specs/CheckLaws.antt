@@ -1,6 +1,6 @@
 -- Laws of the order of refusals: one answer at most, and how the checks of two parts make the checks of both. Assumes nothing.
 use mathlib.Core.Path.{_≡_, sym, _∙_, ap}
-use mathlib.Core.Logic.{inl, inr, ⊎-elim}
+use mathlib.Core.Logic.{_⊎_, inl, inr, ⊎-elim}
 use Prim.Native.Nat.{ℕ, zero, suc, _<_, _≤_}
 use native.Mathlib.Nat.{not-suc-le-zero, eq-or-lt-of-le, le-of-suc-le-suc}
 use native.Mathlib.Omega.{arith}
@@ -42,12 +42,16 @@ unfoldable pub Refuses : Checks → Type 0
 Refuses done = Unit {0}
 Refuses (check P m k c) = (1 ≤ m) × Refuses c
 
-pub passes-of-yes : (c : Checks) (a : Answer) → Refuses c → Answers c Yes a → a .number ≡ 0 → Passes c
+-- number 0 is no refusal's: every part holds, and what is left says the rest
+pub answers-zero : (c : Checks) (R : Answer → Type 0) (a : Answer) → Refuses c → Answers c R a → a .number ≡ 0 → Passes c × R a
 unfolding Refuses Passes Answers
-passes-of-yes done a w q e = tt
-passes-of-yes (check P m k c) a w q e =
+answers-zero done R a w q e = (tt, q)
+answers-zero (check P m k c) R a w q e =
     ⊎-elim (λ x. let z : m ≡ 0 = ap (λ (r : Answer). r .number) (sym (x .1)) ∙ e in absurd (omega (arith, w .0)))
-    (λ x. (x .0, passes-of-yes c a (w .1) (x .1) e)) q
+    (λ x. let y = answers-zero c R a (w .1) (x .1) e in ((x .0, y .0), y .1)) q
+
+pub passes-of-yes : (c : Checks) (a : Answer) → Refuses c → Answers c Yes a → a .number ≡ 0 → Passes c
+passes-of-yes c a w q e = answers-zero c Yes a w q e .0
 
 pub fails-of-refused : (c : Checks) (a : Answer) → Answers c Yes a → ¬ (a .number ≡ 0) → ¬ Passes c
 fails-of-refused c a q f p = f (ap (λ (r : Answer). r .number) (answers-rest c Yes a p q))
@@ -69,6 +73,14 @@ pub answers-after : (c d : Checks) (R : Answer → Type 0) (a : Answer) → Pass
 unfolding Passes Answers _then_
 answers-after done d R a p q = q
 answers-after (check P m k c) d R a p q = inr (p .0, answers-after c d R a (p .1) q)
+
+-- an answer to c's parts and then d's: c refuses, or c's parts hold and it is an answer to d's
+pub answers-split : (c d : Checks) (R : Answer → Type 0) (a : Answer) → Answers (c then d) R a → (Answers c Yes a × (¬ Passes c)) ⊎ (Passes c × Answers d R a)
+unfolding Passes Answers _then_
+answers-split done d R a q = inr (tt, q)
+answers-split (check P m k c) d R a q =
+    ⊎-elim (λ x. inl (inl x, λ p. x .0 (p .0)))
+    (λ x. ⊎-elim (λ y. inl (inr (x .0, y .0), λ p. y .1 (p .1))) (λ y. inr ((x .0, y .0), y .1)) (answers-split c d R a (x .1))) q
 
 pub passes-then : (c d : Checks) → Passes c → Passes d → Passes (c then d)
 unfolding Passes _then_

@@ -1,5 +1,5 @@
 -- A model in range is a stack and a heap, and the judge's statement allows one answer. Assumes nothing.
-use mathlib.Core.Path.{_≡_, refl, sym, _∙_}
+use mathlib.Core.Path.{_≡_, refl, sym, _∙_, ap}
 use mathlib.Core.Bool.{Bool, true, false}
 use mathlib.Core.List.{List}
 use mathlib.Core.Logic.{⊎-elim}
@@ -9,8 +9,9 @@ use native.Mathlib.Omega.{arith}
 use lib.Dec.{eqb, ltb}
 use lib.ListN.{getD}
 use borrow.Author.Tests.{le-ltb, eq-eqb}
+use Rattle.logic.specs.declared.Answer.{Answer}
 use Rattle.logic.specs.Checks.{Passes}
-use Rattle.logic.specs.CheckLaws.{passes-at, answers-single, Single}
+use Rattle.logic.specs.CheckLaws.{Single, Refuses, passes-at, answers-single, refuses-upto}
 use Rattle.logic.specs.Heap.{Stack, Heap}
 use Rattle.logic.specs.Tests.{pick}
 use Rattle.logic.specs.Reflect.{Is}
@@ -85,6 +86,14 @@ pub verdict-single : (P : Type 0) → Single (Verdict P)
 verdict-single P a b p q =
     ⊎-elim (λ x. ⊎-elim (λ y. x .1 ∙ sym (y .1)) (λ y. absurd (y .0 (x .0))) q)
     (λ x. ⊎-elim (λ y. absurd (x .0 (y .0))) (λ y. x .1 ∙ sym (y .1)) q) p
+
+pub verdict-zero : (P : Type 0) (a : Answer) → Verdict P a → a .number ≡ 0 → P
+verdict-zero P a q e = ⊎-elim (λ x. x .0) (λ x. let z : _≡_ {A = ℕ} 1 0 = ap (λ (r : Answer). r .number) (sym (x .1)) ∙ e in absurd (omega arith)) q
+
+-- no refusal of a model has number 0
+pub model-refuses : (v n : ℕ) (m : List ℕ) → Refuses (modelChecks v n m)
+unfolding Refuses
+model-refuses v n m = (omega arith, refuses-upto (byteChecks v n m) (λ i. (omega arith, tt)) (v + n))
 
 -- two answers that the judge's statement allows are equal
 pub judges-single : (s m : List ℕ) → Single (Judges s m)

@@ -2,12 +2,12 @@
 use mathlib.Core.Path.{_≡_, sym, _∙_, ap, subst, subst₂, subst₃}
 use mathlib.Core.Bool.{Bool, true, false}
 use mathlib.Core.List.{List, [], _∷_}
-use Prim.Native.Nat.{ℕ, suc, _+_, _-_, _/_, _<_, _≤_}
+use Prim.Native.Nat.{ℕ, suc, _-_, _/_, _<_, _≤_}
 use native.Mathlib.Omega.{arith}
 use lib.ListN.{length, getD}
 use Rattle.logic.specs.declared.Answer.{Answer}
 use Rattle.logic.specs.Checks.{_then_, Passes, Answers}
-use Rattle.logic.specs.CheckLaws.{Yes, Refuses, passes-of-yes, passes-then, answers-refused, answers-after, answers-other, answers-passed, refuses-upto}
+use Rattle.logic.specs.CheckLaws.{Yes, passes-of-yes, passes-then, answers-refused, answers-after, answers-other, answers-passed}
 use Rattle.logic.specs.Heap.{Stack, Heap, Map}
 use Rattle.logic.specs.Reflect.{Is}
 use Rattle.logic.specs.Truth.{truth}
@@ -16,8 +16,8 @@ use Rattle.logic.specs.Formula.{Form}
 use Rattle.logic.specs.Table.{Sound, tree}
 use Rattle.logic.specs.Book.{nodes, root, bookChecks, stretch, formulaOf, varsOf, locsOf, pathOf, Reads, Accepted}
 use Rattle.logic.specs.BookLaws.{accepted-whole}
-use Rattle.logic.specs.Model.{byteChecks, modelChecks, stackIn, heapIn, Fits, FitsBook, Verdict, Judges}
-use Rattle.logic.specs.ModelLaws.{model-stack, model-heap}
+use Rattle.logic.specs.Model.{modelChecks, stackIn, heapIn, Fits, FitsBook, Verdict, Judges}
+use Rattle.logic.specs.ModelLaws.{model-stack, model-heap, model-refuses}
 use Rattle.cells.specs.Cells.{most, cells, Unnamed}
 use Rattle.judge.specs.Setting.{Ready}
 use Rattle.model.specs.Packing.{packedFrom, Judged}
@@ -53,9 +53,7 @@ module _ (v n p : ℕ) (f t m : List ℕ) (small : (i : ℕ) → getD m i 0 < 25
 -- ---- the judge's answer, from the answers of its steps
 
 pub model-passes : (v n : ℕ) (m : List ℕ) (a : Answer) → Answers (modelChecks v n m) Yes a → a .number ≡ 0 → Passes (modelChecks v n m)
-unfolding Refuses
-model-passes v n m a q e =
-    passes-of-yes (modelChecks v n m) a (omega arith, refuses-upto (byteChecks v n m) (λ i. (omega arith, tt)) (v + n)) q e
+model-passes v n m a q e = passes-of-yes (modelChecks v n m) a (model-refuses v n m) q e
 
 pub judges-book : (s m : List ℕ) (a : Answer) → Reads s a → ¬ (a .number ≡ 0) → Judges s m a
 unfolding Reads Judges

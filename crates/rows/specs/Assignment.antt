@@ -21,7 +21,7 @@ pub record Assignment : Type 0 where
   pub set : ℕ → Set
 
 -- values are "0 to n", at locations 1 to n alone; members are locations from 1 to n
-pub record InRange (v n : ℕ) (ν : Assignment) : Type 0 where
+pub record ValuesInRange (v n : ℕ) (ν : Assignment) : Type 0 where
   pub stack : Stack v n (ν .stack)
   pub low : (i ℓ : ℕ) → ν .array i ℓ ≤ n
   pub alone : (i ℓ : ℕ) → (ℓ ≡ 0) ⊎ (n < ℓ) → ν .array i ℓ ≡ 0

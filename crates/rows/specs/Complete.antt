@@ -10,7 +10,7 @@ use Rattle.logic.specs.Agree.{first-heap, second-heap}
 use Rattle.logic.specs.Formula.{Form}
 use Rattle.logic.specs.Formula.Form.{same, diff, pts, ls, conj, disj, but, neg, sep, sept}
 use Rattle.logic.specs.Holds.{Holds}
-use Rattle.rows.specs.Assignment.{Set, Assignment, InRange, on}
+use Rattle.rows.specs.Assignment.{Set, Assignment, ValuesInRange, on}
 use Rattle.rows.specs.Table.{arraysIn, setsIn, Flat, Encodable}
 use Rattle.rows.specs.Condition.{Condition}
 use Rattle.rows.specs.OnSet.{on-heap}
@@ -22,18 +22,18 @@ module _ (v n p : ℕ) where
   -- an assignment that agrees with ν so far and meets the condition
   pub record Found (F : Form) (ν : Assignment) (A S i j : ℕ) : Type 0 where
     pub is : Assignment
-    pub in-range : InRange v n is
+    pub in-range : ValuesInRange v n is
     pub agrees : Agree i j ν is
     pub holds : Condition v p is F A S i j
 
   -- what is to be shown of a formula
   Complete : Form → Type 0
-  Complete F = (ν : Assignment) (A S i j : ℕ) → InRange v n ν → A < i → S < j → Holds v n p F (ν .stack) (on (ν .array A) (ν .set S)) → Found F ν A S i j
+  Complete F = (ν : Assignment) (A S i j : ℕ) → ValuesInRange v n ν → A < i → S < j → Holds v n p F (ν .stack) (on (ν .array A) (ν .set S)) → Found F ν A S i j
 
   -- two conditions, of which the second one's symbols are new after the first one's
   record FoundBoth (a b : Form) (ν : Assignment) (A S T i j : ℕ) : Type 0 where
     is : Assignment
-    in-range : InRange v n is
+    in-range : ValuesInRange v n is
     agrees : Agree i j ν is
     first : Condition v p is a A S i j
     second : Condition v p is b A T (i + arraysIn a) (j + setsIn a)
@@ -41,7 +41,7 @@ module _ (v n p : ℕ) where
   truth-kept : (F : Form) (ν μ : Assignment) (A S i j : ℕ) → A < i → S < j → Agree i j ν μ → Holds v n p F (ν .stack) (on (ν .array A) (ν .set S)) → Holds v n p F (μ .stack) (on (μ .array A) (μ .set S))
   truth-kept F ν μ A S i j a b g q = rw (← (g .stack), ← (g .array A a), ← (g .set S b)) q
 
-  both : (a b : Form) → Complete a → Complete b → (ν : Assignment) (A S T i j : ℕ) → InRange v n ν → A < i → S < j → T < j
+  both : (a b : Form) → Complete a → Complete b → (ν : Assignment) (A S T i j : ℕ) → ValuesInRange v n ν → A < i → S < j → T < j
       → Holds v n p a (ν .stack) (on (ν .array A) (ν .set S)) → Holds v n p b (ν .stack) (on (ν .array A) (ν .set T)) → FoundBoth a b ν A S T i j
   unfolding Complete
   both a b ca cb ν A S T i j k lA lS lT ha hb =
@@ -92,9 +92,9 @@ module _ (v n p : ℕ) where
     first : μ .set j ≡ S1
     second : μ .set (j + 1) ≡ S2
     old : (m : ℕ) → m < j → μ .set m ≡ ν .set m
-    in-range : InRange v n μ
+    in-range : ValuesInRange v n μ
 
-  two : (ν : Assignment) (j : ℕ) (g r : Map) → InRange v n ν → Heap n g → Heap n r → (μ : Assignment) × Two ν μ j (allocated g) (allocated r)
+  two : (ν : Assignment) (j : ℕ) (g r : Map) → ValuesInRange v n ν → Heap n g → Heap n r → (μ : Assignment) × Two ν μ j (allocated g) (allocated r)
   two ν j g r k kg kr =
       let ν₁ = withSet ν j (allocated g) in
       let a = new-set v n ν j (allocated g) in
@@ -157,9 +157,9 @@ module _ (v n p : ℕ) where
     first : μ .set j ≡ S1
     second : μ .set (j + 1) ≡ S2
     old : (m : ℕ) → m < j → μ .set m ≡ ν .set m
-    in-range : InRange v n μ
+    in-range : ValuesInRange v n μ
 
-  three : (ν : Assignment) (i j : ℕ) (g u : Map) → InRange v n ν → Heap n g → Heap n u → (μ : Assignment) × Three ν μ i j (values u) (allocated g) (allocated u)
+  three : (ν : Assignment) (i j : ℕ) (g u : Map) → ValuesInRange v n ν → Heap n g → Heap n u → (μ : Assignment) × Three ν μ i j (values u) (allocated g) (allocated u)
   three ν i j g u k kg ku =
       let w = two ν j g u k kg ku in
       let a = new-array v n (w .0) i (values u) in (
@@ -235,6 +235,6 @@ module _ (v n p : ℕ) where
   complete-of (sep a b) c = complete-sep a b (complete-of a (c .0)) (complete-of b (c .1))
   complete-of (sept a b) c = complete-sept a b (complete-of a (c .0)) (complete-of b (c .1))
 
-  pub complete : (F : Form) → Encodable F → (ν : Assignment) (A S i j : ℕ) → InRange v n ν → A < i → S < j → Holds v n p F (ν .stack) (on (ν .array A) (ν .set S)) → Found F ν A S i j
+  pub complete : (F : Form) → Encodable F → (ν : Assignment) (A S i j : ℕ) → ValuesInRange v n ν → A < i → S < j → Holds v n p F (ν .stack) (on (ν .array A) (ν .set S)) → Found F ν A S i j
   unfolding Complete
   complete F c = complete-of F c

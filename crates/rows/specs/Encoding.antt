@@ -7,7 +7,7 @@ use Rattle.logic.specs.Heap.{Map, Stack, Heap}
 use Rattle.logic.specs.Formula.{Form}
 use Rattle.logic.specs.Model.{Fits}
 use Rattle.logic.specs.Tests.{allocated}
-use Rattle.rows.specs.Assignment.{Assignment, InRange, on, modelHeap}
+use Rattle.rows.specs.Assignment.{Assignment, ValuesInRange, on, modelHeap}
 use Rattle.rows.specs.Meaning.{Satisfies}
 use Rattle.rows.specs.Table.{table, Encodable}
 use Rattle.rows.specs.LastRow.{satisfies-condition}
@@ -17,13 +17,13 @@ use Rattle.rows.specs.Complete.{complete}
 
 module _ (v n p : ℕ) (F : Form) (c : Encodable F) where
   -- each satisfying assignment yields a model that fits: "the stack and array 0 on set 0"
-  pub assignment-fits : (ν : Assignment) → InRange v n ν → Satisfies v ν (table p F) → Fits v n p F (ν .stack) (modelHeap ν)
+  pub assignment-fits : (ν : Assignment) → ValuesInRange v n ν → Satisfies v ν (table p F) → Fits v n p F (ν .stack) (modelHeap ν)
   assignment-fits ν k q = sound v n p ν k F 0 0 1 1 c (satisfies-condition v p ν F .0 q)
 
   -- each model that fits comes from a satisfying assignment
   pub record From (s h : Map) : Type 0 where
     pub is : Assignment
-    pub in-range : InRange v n is
+    pub in-range : ValuesInRange v n is
     pub satisfies : Satisfies v is (table p F)
     pub stack : is .stack ≡ s
     pub heap : modelHeap is ≡ h
@@ -31,7 +31,7 @@ module _ (v n p : ℕ) (F : Form) (c : Encodable F) where
   pub fits-assignment : (s h : Map) → Stack v n s → Heap n h → Fits v n p F s h → From s h
   fits-assignment s h ks kh q =
       let ν : Assignment = record { stack = s; array = λ i. values h; set = λ j. allocated h } in
-      let k : InRange v n ν = record {
+      let k : ValuesInRange v n ν = record {
         stack = ks;
         low = λ i ℓ. values-low n h kh ℓ;
         alone = λ i ℓ z. values-alone n h kh ℓ z;

@@ -9,7 +9,7 @@ use Rattle.logic.specs.Holds.{Points, Chain, Segment}
 use Rattle.logic.specs.Tests.{pick}
 use Rattle.logic.specs.Reflect.{false-true}
 use Rattle.logic.specs.Chains.{is-chain, is-segment}
-use Rattle.rows.specs.Assignment.{Set, Member, Assignment, InRange, on}
+use Rattle.rows.specs.Assignment.{Set, Member, Assignment, ValuesInRange, on}
 use Rattle.rows.specs.Meaning.{NoMember, Just, Holding, Links, Splits, WithValues, Apart, Same}
 
 -- no member of a set where the test fails
@@ -45,7 +45,7 @@ module _ (A : Map) (S : Set) (ℓ : ℕ) where
   unfolding on
   on-same T e = rw e
 
-pub on-heap : (v n : ℕ) (ν : Assignment) (A S : ℕ) → InRange v n ν → Heap n (on (ν .array A) (ν .set S))
+pub on-heap : (v n : ℕ) (ν : Assignment) (A S : ℕ) → ValuesInRange v n ν → Heap n (on (ν .array A) (ν .set S))
 unfolding on
 on-heap v n ν A S k = record { nil = rw (k .nil S); past = λ ℓ l. rw (k .past S ℓ l); low = λ ℓ. go ℓ (ν .set S ℓ) }
   where

@@ -6,12 +6,12 @@ use Rattle.logic.specs.Heap.{Map, StronglyDisjoint, Parts}
 use Rattle.logic.specs.Formula.{Form}
 use Rattle.logic.specs.Formula.Form.{same, diff, pts, ls, conj, disj, but, neg, sep, sept}
 use Rattle.logic.specs.Holds.{Holds}
-use Rattle.rows.specs.Assignment.{Assignment, InRange, on}
+use Rattle.rows.specs.Assignment.{Assignment, ValuesInRange, on}
 use Rattle.rows.specs.Table.{arraysIn, setsIn, Flat, Encodable}
 use Rattle.rows.specs.Condition.{Condition}
 use Rattle.rows.specs.OnSet.{on-heap, empty-on, points-on, segment-on, splits-parts, apart-disjoint, same-on}
 
-module _ (v n p : ℕ) (ν : Assignment) (k : InRange v n ν) where
+module _ (v n p : ℕ) (ν : Assignment) (k : ValuesInRange v n ν) where
   -- the truth of a formula on array A and set S
   abbrev Truth : Form → ℕ → ℕ → Type 0
   Truth F A S = Holds v n p F (ν .stack) (on (ν .array A) (ν .set S))

@@ -10,7 +10,7 @@ use borrow.Author.Tests.{eq-eqb, ne-eqb}
 use Rattle.logic.specs.Heap.{Map}
 use Rattle.logic.specs.Formula.{Form}
 use Rattle.logic.specs.Formula.Form.{same, diff, pts, ls, conj, disj, but, neg, sep, sept}
-use Rattle.rows.specs.Assignment.{Set, Assignment, InRange}
+use Rattle.rows.specs.Assignment.{Set, Assignment, ValuesInRange}
 use Rattle.rows.specs.Table.{arraysIn, setsIn}
 use Rattle.rows.specs.Condition.{Condition}
 
@@ -99,14 +99,14 @@ module _ (v n : ℕ) (ν : Assignment) (k : ℕ) where
     pub array : (m : ℕ) → μ .array m ≡ ν .array m
     pub new : μ .set k ≡ T
     pub old : (m : ℕ) → ¬ (m ≡ k) → μ .set m ≡ ν .set m
-    pub in-range : InRange v n ν → T 0 ≡ false → ((ℓ : ℕ) → n < ℓ → T ℓ ≡ false) → InRange v n μ
+    pub in-range : ValuesInRange v n ν → T 0 ≡ false → ((ℓ : ℕ) → n < ℓ → T ℓ ≡ false) → ValuesInRange v n μ
 
   pub record NewArray (T : Map) (μ : Assignment) : Type 0 where
     pub stack : μ .stack ≡ ν .stack
     pub set : (m : ℕ) → μ .set m ≡ ν .set m
     pub new : μ .array k ≡ T
     pub old : (m : ℕ) → ¬ (m ≡ k) → μ .array m ≡ ν .array m
-    pub in-range : InRange v n ν → ((ℓ : ℕ) → T ℓ ≤ n) → ((ℓ : ℕ) → (ℓ ≡ 0) ⊎ (n < ℓ) → T ℓ ≡ 0) → InRange v n μ
+    pub in-range : ValuesInRange v n ν → ((ℓ : ℕ) → T ℓ ≤ n) → ((ℓ : ℕ) → (ℓ ≡ 0) ⊎ (n < ℓ) → T ℓ ≡ 0) → ValuesInRange v n μ
 
   pub new-set : (T : Set) → NewSet T (withSet ν k T)
   unfolding withSet pickSet
@@ -119,11 +119,11 @@ module _ (v n : ℕ) (ν : Assignment) (k : ℕ) where
         in-range = λ l z q. record { stack = l .stack; low = l .low; alone = l .alone; nil = λ i. nil′ (eqb i k) i l z; past = λ i ℓ m. past′ (eqb i k) i ℓ l q m };
       }
     where
-      nil′ : (b : Bool) (i : ℕ) → InRange v n ν → T 0 ≡ false → pickSet b T (ν .set i) 0 ≡ false
+      nil′ : (b : Bool) (i : ℕ) → ValuesInRange v n ν → T 0 ≡ false → pickSet b T (ν .set i) 0 ≡ false
       nil′ true i l z = z
       nil′ false i l z = l .nil i
 
-      past′ : (b : Bool) (i ℓ : ℕ) → InRange v n ν → ((ℓ : ℕ) → n < ℓ → T ℓ ≡ false) → n < ℓ → pickSet b T (ν .set i) ℓ ≡ false
+      past′ : (b : Bool) (i ℓ : ℕ) → ValuesInRange v n ν → ((ℓ : ℕ) → n < ℓ → T ℓ ≡ false) → n < ℓ → pickSet b T (ν .set i) ℓ ≡ false
       past′ true i ℓ l q m = q ℓ m
       past′ false i ℓ l q m = l .past i ℓ m
 
@@ -138,10 +138,10 @@ module _ (v n : ℕ) (ν : Assignment) (k : ℕ) where
         in-range = λ l q w. record { stack = l .stack; low = λ i ℓ. low′ (eqb i k) i ℓ l q; alone = λ i ℓ z. alone′ (eqb i k) i ℓ l (w ℓ) z; nil = l .nil; past = l .past };
       }
     where
-      low′ : (b : Bool) (i ℓ : ℕ) → InRange v n ν → ((ℓ : ℕ) → T ℓ ≤ n) → pickMap b T (ν .array i) ℓ ≤ n
+      low′ : (b : Bool) (i ℓ : ℕ) → ValuesInRange v n ν → ((ℓ : ℕ) → T ℓ ≤ n) → pickMap b T (ν .array i) ℓ ≤ n
       low′ true i ℓ l q = q ℓ
       low′ false i ℓ l q = l .low i ℓ
 
-      alone′ : (b : Bool) (i ℓ : ℕ) → InRange v n ν → ((ℓ ≡ 0) ⊎ (n < ℓ) → T ℓ ≡ 0) → (ℓ ≡ 0) ⊎ (n < ℓ) → pickMap b T (ν .array i) ℓ ≡ 0
+      alone′ : (b : Bool) (i ℓ : ℕ) → ValuesInRange v n ν → ((ℓ ≡ 0) ⊎ (n < ℓ) → T ℓ ≡ 0) → (ℓ ≡ 0) ⊎ (n < ℓ) → pickMap b T (ν .array i) ℓ ≡ 0
       alone′ true i ℓ l w z = w z
       alone′ false i ℓ l w z = l .alone i ℓ z
