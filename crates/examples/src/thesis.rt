@@ -1,10 +1,13 @@
 // Document 003's worked examples, chapter by chapter, each with its place there. Its variables are named x y z u v here, and a
 // list's path bound is n, so that no chain within the bounds is too long.
+//
+// The pictures of the figures are not in the copy that was read: a figure's model here is one that its caption and the text
+// describe, made as small as they allow. Two lines go against what 003 says, and name the definition that decides instead.
 use crate::report::Tally;
 use crate::report::run;
 
 // In Example 2.5 the formula is to say that x is allocated. Where x is nil it holds on every heap, since no added heap fits
-// x>0 there; the last line on it says so.
+// x>0 there; the line against it says so.
 pub fn chapter_2(t: Tally) -> Tally {
     run(
         t,
@@ -20,7 +23,7 @@ pub fn chapter_2(t: Tally) -> Tally {
 003 Example 2.4, only unified | 3 3 3 | ((x>y & y>z) * y#z) | none
 003 Example 2.5, x allocated | 1 2 2 | !(x>0 @ T) | fits 1;1-
 003 Example 2.5, x not allocated | 1 2 2 | !(x>0 @ T) | not 1;-1
-003 Example 2.5, but x at nil | 1 2 2 | !(x>0 @ T) | fits 0;--
+003 Figure 3.2, against Example 2.5: x at nil | 1 2 2 | !(x>0 @ T) | fits 0;--
 003 2.3.3, the empty list | 2 2 2 | x~y | fits 11;--
 003 2.3.3, no cyclic list | 2 2 2 | x~y | not 11;1-
 003 Example 2.6 | 3 2 2 | ((x>y * y>z) & !x~z) | fits 121;21
@@ -106,7 +109,7 @@ pub fn chapter_7(t: Tally) -> Tally {
 003 7.3.1, size exactly 2 | 0 3 3 | ((N * N) & !((N * N) * N)) | fits ;12-
 003 7.3.1, size exactly 2 | 0 3 3 | ((N * N) & !((N * N) * N)) | not ;123
 003 7.3.1, not_alloc at the empty heap | 2 2 2 | ((x>0 @ T) * (y>0 @ T)) | fits 12;--
-003 7.3.1, not_alloc with x allocated | 2 2 2 | ((x>0 @ T) * (y>0 @ T)) | fits 12;1-
+003 Figure 3.2, against 7.3.1: not_alloc with x allocated | 2 2 2 | ((x>0 @ T) * (y>0 @ T)) | fits 12;1-
 003 7.3.1, ptr_septr, n = 2 | 2 2 2 | ((E @ x>y) * (E @ y>x)) | fits 12;21
 003 7.3.1, ptr_septr, n = 3 | 3 3 3 | (((E @ x>y) * (E @ y>z)) * (E @ z>x)) | fits 123;231
 003 7.3.2, at the empty heap | 2 2 2 | (x>y @ x>y) | fits 12;--
