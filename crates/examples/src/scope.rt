@@ -1,4 +1,4 @@
-// Document 01's examples: P1's bytes, which are no theorems, and the proved ones once more, beside the second judge.
+// Document 01's examples: P1's bytes, and those that document 01 wants proved once more, beside the second judge.
 use crate::notation;
 use crate::notation::front_of_page;
 use crate::report::Tally;
@@ -21,7 +21,7 @@ const P1_ENCODING: [u8; 44] = [
     0,
     1,
     1,
-    1, //
+    1,
     4,
     0,
     0,
@@ -31,7 +31,7 @@ const P1_ENCODING: [u8; 44] = [
     0,
     0,
     0,
-    0, //
+    0,
     5,
     0,
     0,
@@ -41,7 +41,7 @@ const P1_ENCODING: [u8; 44] = [
     1,
     0,
     0,
-    0, //
+    0,
     7,
     0,
     0,

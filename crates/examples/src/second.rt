@@ -1,6 +1,6 @@
 // The second judge. For a fixed stack it works out, node after node from the first, the set of all heaps that fit the node:
-// an atom's heaps are looked at one by one, a connective's come from its children's sets. No heap is taken apart, and nothing
-// is shared with the bench. Stacks and heaps are numbers, a digit for each variable (base n + 1) or location (base n + 2); two
+// an atom's heaps are looked at one by one, a connective's come from its children's sets. No heap is taken apart, and of the
+// bench only the cast `wide` is used. Stacks and heaps are numbers, a digit for each variable (base n + 1) or location (base n + 2); two
 // strongly disjoint heaps together have the sum of their numbers. Three variables and three locations at the most.
 
 use contents::wide;
