@@ -19,7 +19,7 @@ use Rattle.logic.specs.ModelLaws.{verdict-single}
 use Rattle.cells.specs.Sets.{in-past, in-nothing}
 use Rattle.rows.specs.Assignment.{ValuesInRange}
 use Rattle.rows.specs.Assigned.{arrayIn, setIn, assigned, ValueOk, valueChecks, assignmentChecks, SatisfiesBook, assignChecks, Assigns}
-use Rattle.assign.specs.UnpackLaws.{rows-fit}
+use Rattle.arrays.specs.UnpackLaws.{rows-fit}
 
 -- two answers that the statement allows are equal
 pub assigns-single : (s q : List ℕ) → Single (Assigns s q)

@@ -18,7 +18,7 @@ use Rattle.cells.specs.Sets.{in-past}
 use Rattle.rows.specs.Assignment.{Set, Assignment, ValuesInRange}
 use Rattle.rows.specs.Symbols.{Agree}
 use Rattle.rows.specs.Assigned.{arrayIn, setIn, assigned, ValueOk, valueChecks, assignmentChecks}
-use Rattle.assign.specs.UnpackLaws.{rows-fit}
+use Rattle.arrays.specs.UnpackLaws.{rows-fit}
 use Rattle.assign.specs.ModelOfLaws.{list-long, list-at}
 use Rattle.assign.specs.BytesOf.{setByte, byteOf, bytesOf}
 

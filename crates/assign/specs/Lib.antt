@@ -1,10 +1,6 @@
-pub mod Setting
-pub mod RowLaws
-pub mod SettingLaws
-pub mod NodeLaws
-pub mod UnpackLaws
-pub mod AssignedLaws
 pub mod Judging
+pub mod AssignedLaws
+pub mod JudgingLaws
 pub mod ModelOf
 pub mod ModelOfLaws
 pub mod BytesOf

@@ -13,10 +13,13 @@ unfoldable pub listOf : ℕ → (ℕ → ℕ) → List ℕ
 listOf zero f = []
 listOf (suc k) f = f 0 ∷ listOf k (λ i. f (suc i))
 
--- "Its model is the stack and array 0 on set 0.": the first v + n bytes, with 255 for each location outside set 0; a is the number
+-- "Its model is the stack and array 0 on set 0.": byte i of the assignment q, or 255 for a location outside set 0; a is the number
 -- of arrays
+abbrev pub modelByte : ℕ → ℕ → ℕ → List ℕ → ℕ → ℕ
+modelByte v n a q i = pick (orb (ltb i v) (setIn v n a q 0 (suc (i - v)))) (getD q i 0) 255
+
 unfoldable pub modelOf : ℕ → ℕ → ℕ → List ℕ → List ℕ
-modelOf v n a q = listOf (v + n) (λ i. pick (orb (ltb i v) (setIn v n a q 0 (suc (i - v)))) (getD q i 0) 255)
+modelOf v n a q = listOf (v + n) (modelByte v n a q)
 
 -- the model of the assignment q, for the book s
 abbrev pub modelIn : List ℕ → List ℕ → List ℕ

@@ -12,12 +12,12 @@ use lib.ListN.{length, getD}
 use borrow.Author.Tests.{lt-ltb, le-ltb, ne-eqb}
 use Rattle.logic.specs.Checks.{upto, Passes}
 use Rattle.logic.specs.CheckLaws.{passes-none, passes-more}
-use Rattle.logic.specs.Tests.{orb, pick}
+use Rattle.logic.specs.Tests.{pick}
 use Rattle.logic.specs.Model.{stackIn, heapIn, digitOf, ByteOk, byteChecks, modelChecks}
 use Rattle.rows.specs.Assignment.{ValuesInRange, on}
 use Rattle.rows.specs.OnSet.{on-other, on-member}
 use Rattle.rows.specs.Assigned.{arrayIn, setIn, assigned}
-use Rattle.assign.specs.ModelOf.{listOf, modelOf}
+use Rattle.assign.specs.ModelOf.{listOf, modelByte, modelOf}
 
 pub list-long : (k : ℕ) (f : ℕ → ℕ) → length (listOf k f) ≡ k
 unfolding listOf
@@ -39,9 +39,9 @@ passes-each v n m e f = (e, up (v + n) f)
     up (suc k) g = passes-more (byteChecks v n m) k (up k (λ i l. g i (omega arith))) (g k (omega arith), tt)
 
 module _ (v n a : ℕ) (q : List ℕ) (k : ValuesInRange v n (assigned v n a q)) (few : n < 255) (some : 0 < a) where
-  byte-of : (i : ℕ) → i < v + n → getD (modelOf v n a q) i 0 ≡ pick (orb (ltb i v) (setIn v n a q 0 (suc (i - v)))) (getD q i 0) 255
+  byte-of : (i : ℕ) → i < v + n → getD (modelOf v n a q) i 0 ≡ modelByte v n a q i
   unfolding modelOf
-  byte-of i l = list-at (v + n) (λ i. pick (orb (ltb i v) (setIn v n a q 0 (suc (i - v)))) (getD q i 0) 255) i l
+  byte-of i l = list-at (v + n) (modelByte v n a q) i l
 
   stack-byte : (i : ℕ) → i < v → getD (modelOf v n a q) i 0 ≡ getD q i 0
   stack-byte i l = byte-of i (omega arith) ∙ rw (lt-ltb i v l)
@@ -92,7 +92,7 @@ module _ (v n a : ℕ) (q : List ℕ) (k : ValuesInRange v n (assigned v n a q))
 
   pub model-of-passes : Passes (modelChecks v n (modelOf v n a q))
   unfolding modelOf
-  model-of-passes = passes-each v n (modelOf v n a q) (list-long (v + n) (λ i. pick (orb (ltb i v) (setIn v n a q 0 (suc (i - v)))) (getD q i 0) 255)) (λ i l. at i l (decLt i v))
+  model-of-passes = passes-each v n (modelOf v n a q) (list-long (v + n) (modelByte v n a q)) (λ i l. at i l (decLt i v))
     where
       cell : (j : ℕ) → j < n → (b : Bool) → setIn v n a q 0 (suc j) ≡ b → (pick b (getD q (v + j) 0) 255 ≤ n) ⊎ (pick b (getD q (v + j) 0) 255 ≡ 255)
       cell j l true e = inl (omega (arith, value-byte j l, k .low 0 (suc j)))

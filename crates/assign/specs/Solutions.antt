@@ -11,7 +11,7 @@ use lib.Seq.{ext-getD}
 use borrow.Author.Tests.{lt-ltb, eq-eqb, ne-eqb}
 use Rattle.logic.specs.declared.Answer.{Answer}
 use Rattle.logic.specs.Numbers.{answer}
-use Rattle.logic.specs.Checks.{check, Passes}
+use Rattle.logic.specs.Checks.{Passes}
 use Rattle.logic.specs.CheckLaws.{Refuses, passes-then, answers-passed, refuses-upto}
 use Rattle.logic.specs.Heap.{Map}
 use Rattle.logic.specs.Book.{bookFormula, varsOf, locsOf, pathOf, bookChecks, Accepted}
@@ -23,14 +23,14 @@ use Rattle.rows.specs.Table.{arrays, sets, Encodable}
 use Rattle.rows.specs.LastRow.{satisfies-condition}
 use Rattle.rows.specs.Symbols.{condition-kept}
 use Rattle.rows.specs.Encoding.{assignment-fits, fits-assignment}
-use Rattle.rows.specs.Assigned.{assigned, assignedIn, valueChecks, assignmentChecks, SatisfiesBook, assignChecks, Assigns}
+use Rattle.rows.specs.Assigned.{assigned, assignedIn, valueChecks, SatisfiesBook, assignRest, assignChecks, Assigns}
 use Rattle.assign.specs.AssignedLaws.{assigned-in-range}
 use Rattle.assign.specs.ModelOf.{modelIn}
 use Rattle.assign.specs.ModelOfLaws.{model-of-stack, model-of-heap, model-of-passes}
 use Rattle.assign.specs.BytesOf.{bytesOf}
 use Rattle.assign.specs.BytesOfLaws.{bytes-agree, bytes-pass}
 
-assignment-refuses : (s q : List ℕ) → Refuses (check (Encodable (bookFormula s)) 19 0 (assignmentChecks (varsOf s) (locsOf s) (arrays (bookFormula s)) (sets (bookFormula s)) q))
+assignment-refuses : (s q : List ℕ) → Refuses (assignRest s q)
 unfolding Refuses
 assignment-refuses s q =
     let a = arrays (bookFormula s) in
@@ -46,7 +46,7 @@ satisfied-fits s q a p e =
     let v = varsOf s in
     let n = locsOf s in
     let k = arrays (bookFormula s) in
-    let y = book-zero s (check (Encodable (bookFormula s)) 19 0 (assignmentChecks v n k (sets (bookFormula s)) q)) (Verdict (SatisfiesBook s q)) a (assignment-refuses s q) p e in
+    let y = book-zero s (assignRest s q) (Verdict (SatisfiesBook s q)) a (assignment-refuses s q) p e in
     let r = assigned-in-range v n k (sets (bookFormula s)) q (y .1 .0 .1) in
     let few = few-locations s (y .0) in
     let f = assignment-fits v n (pathOf s) (bookFormula s) (y .1 .0 .0) (assignedIn s q) r (verdict-zero (SatisfiesBook s q) a (y .1 .1) e) in
@@ -102,7 +102,7 @@ fits-satisfied s m a p e c =
     record {
       bytes = q;
       satisfies = answers-passed (assignChecks s q) (Verdict (SatisfiesBook s q)) (answer 0 0)
-          (passes-then (bookChecks s) (check (Encodable (bookFormula s)) 19 0 (assignmentChecks v n k b q)) (y .0) (c, ok)) (inl (sat, refl));
+          (passes-then (bookChecks s) (assignRest s q) (y .0) (c, ok)) (inl (sat, refl));
       model = model-same v n (modelIn s q) m (model-of-passes v n k q r few (omega arith) .0) (y .1 .0 .0)
           (model-of-stack v n k q r few (omega arith) ∙ sym (g .stack) ∙ f .stack)
           (model-of-heap v n k q r few (omega arith) ∙ ap₂ on (sym (g .array 0 (omega arith))) (sym (g .set 0 (omega arith))) ∙ f .heap);

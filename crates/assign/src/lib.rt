@@ -1,325 +1,32 @@
 // The judge of assignments: whether an assignment satisfies the table of a book, without a byte of the table being written.
-use book::answer_of;
-use cells::cell;
-use cells::is_empty;
-use cells::is_list;
-use cells::is_points;
-use cells::met;
-use cells::spread;
+use arrays::unpack;
+use book::open;
 use cells::unnamed;
-use contents::body;
-use contents::wide;
-use encoder::encodable;
+use contents::part;
+use encodable::encodable;
+use leaves::answer_of;
+use leaves::long;
+use leaves::wide;
 use logic::Answer;
-use model::packed;
+use packing::packed;
+use rowjudge::Setting;
+use rowjudge::node;
 ghost use mathlib.Core.Path.{_≡_};
-ghost use mathlib.Core.List.{[]};
 ghost use mathlib.Core.Logic.{_⊎_};
-ghost use Prim.Native.Nat.{ℕ, _+_, _*_, _^_, _≤_, _<_};
-ghost use lib.Dec.{leb, ltb};
-ghost use lib.ListN.{length, getD};
+ghost use Prim.Native.Nat.{_*_, _^_, _≤_, _<_};
+ghost use lib.Dec.{leb};
 ghost use Rattle.logic.specs.Checks.{Answers};
 ghost use Rattle.logic.specs.CheckLaws.{Yes};
 ghost use Rattle.logic.specs.Reflect.{Is};
-ghost use Rattle.logic.specs.Tests.{andb, orb, pick, inPart};
-ghost use Rattle.logic.specs.Holds.{Holds};
-ghost use Rattle.logic.specs.Table.{Sound, opOf, tree, atomOf, joinOf};
+ghost use Rattle.logic.specs.Tests.{pick};
+ghost use Rattle.logic.specs.Table.{opOf, tree};
 ghost use Rattle.logic.specs.Book.{most, nodes, root};
-ghost use Rattle.cells.specs.Cells.{word, cells};
-ghost use Rattle.rows.specs.Assignment.{on};
-ghost use Rattle.rows.specs.Meaning.{Splits, Apart, Same, Satisfies};
+ghost use Rattle.rows.specs.Meaning.{Satisfies};
 ghost use Rattle.rows.specs.Table.{table};
 ghost use Rattle.rows.specs.Bounds.{mostArrays, mostSets};
 ghost use Rattle.rows.specs.Weight.{sum};
 ghost use Rattle.rows.specs.Assigned.{assigned, assignmentChecks, Assigns};
-ghost use Rattle.assign.specs.Setting.{valuesIn, given, Unpacked, Judging, Ready, Within, Judged, JudgedBoth, WithinBoth};
-
-// The bounds, the number of arrays and of sets, where the sets begin, the stack, packed, and the unnamed locations.
-pub struct Setting {
-    pub v: u64,
-    pub n: u64,
-    pub p: u64,
-    pub arrays: usize,
-    pub sets: usize,
-    pub base: usize,
-    pub stack: u64,
-    pub unnamed: u64,
-}
-
-// Whether a formula's last row holds, and the next array and set.
-pub struct Told {
-    pub holds: bool,
-    pub array: usize,
-    pub set: usize,
-}
-
-// The same of two formulas.
-pub struct Pair {
-    pub first: bool,
-    pub second: bool,
-    pub array: usize,
-    pub set: usize,
-}
-
-fn and(a: bool, b: bool) -> bool
-    ensures { λ r. ⌜ r ≡ andb a b ⌝ }
-{
-    if a { b } else { false }
-}
-
-fn or(a: bool, b: bool) -> bool
-    ensures { λ r. ⌜ r ≡ orb a b ⌝ }
-{
-    if a { true } else { b }
-}
-
-fn long(x: u8) -> u64
-    ensures { λ r. ⌜ r ≡ x ⌝ }
-{
-    x as u64
-}
-
-fn byte_at(q: &[u8], i: usize) -> u64
-    requires { ⌜ i < length (now q) ⌝ }
-    ensures { λ r. ⌜ (r ≡ getD (now (q .entry)) i 0) × (r < 256) ⌝ }
-{
-    q[i] as u64
-}
-
-// Array i on the set m, packed.
-fn heap_on(arrays: &[[u8; 6]; 32], i: usize, m: u64, n: u64) -> u64
-    requires { ⌜ (i < 32) × (n ≤ most) × (m < 2 ^ n) × ((ℓ : ℕ) → valuesIn (now arrays) i ℓ ≤ n) × (length (getD (now arrays) i []) ≡ 6) ⌝ }
-    ensures { λ r. ⌜ (cells r ≡ on (valuesIn (now (arrays .entry)) i) (inPart m)) × (r < word) ⌝ }
-{
-    let row = arrays[i];
-    packed(&row, 0, n as usize, true) & spread(m)
-}
-
-// Array a on set s, packed.
-fn heap_at(q: &[u8], arrays: &[[u8; 6]; 32], g: Setting, a: usize, s: usize) -> u64
-    requires { ⌜ Ready g (now q) (now arrays) × (a < g .arrays) × (s < g .sets) ⌝ }
-    ensures { λ r. ⌜ (cells r ≡ on (given g (now (q .entry)) .array a) (given g (now (q .entry)) .set s)) × (r < word) ⌝ }
-{
-    heap_on(arrays, a, byte_at(q, g.base + s), g.n)
-}
-
-// Whether an atom over the variables x and y holds on array a and set s.
-fn atom(
-    q: &[u8],
-    arrays: &[[u8; 6]; 32],
-    g: Setting,
-    op: u8,
-    x: u64,
-    y: u64,
-    a: usize,
-    s: usize,
-) -> bool
-    requires { ⌜ Ready g (now q) (now arrays) × (a < g .arrays) × (s < g .sets) × (1 ≤ op) × (op ≤ 4) × (x ≤ g .v) × (y ≤ g .v) ⌝ }
-    ensures { λ r. ⌜ Is r (Holds (g .v) (g .n) (g .p) (atomOf op x y) (given g (now (q .entry)) .stack) (on (given g (now (q .entry)) .array a) (given g (now (q .entry)) .set s))) ⌝ }
-{
-    let w = heap_at(q, arrays, g, a, s);
-    let b = cell(g.stack, x);
-    let c = cell(g.stack, y);
-    match op {
-        1 => and(b == c, is_empty(w)),
-        2 => and(b != c, is_empty(w)),
-        3 => is_points(b, c, w),
-        _ => is_list(g.p, b, c, w),
-    }
-}
-
-// SPLIT.
-fn is_split(q: &[u8], g: Setting, s: usize, s1: usize, s2: usize) -> bool
-    requires { ⌜ (length (now q) ≡ g .base + g .sets) × (g .base ≡ g .v + g .arrays * g .n) × (s < g .sets) × (s1 < g .sets) × (s2 < g .sets) ⌝ }
-    ensures { λ r. ⌜ Is r (Splits (given g (now (q .entry)) .set s) (given g (now (q .entry)) .set s1) (given g (now (q .entry)) .set s2)) ⌝ }
-{
-    let m = byte_at(q, g.base + s);
-    let x = byte_at(q, g.base + s1);
-    let y = byte_at(q, g.base + s2);
-    and(x & y == 0, x | y == m)
-}
-
-// APART.
-fn is_apart(q: &[u8], arrays: &[[u8; 6]; 32], g: Setting, a: usize, s1: usize, s2: usize) -> bool
-    requires { ⌜ Ready g (now q) (now arrays) × (a < g .arrays) × (s1 < g .sets) × (s2 < g .sets) ⌝ }
-    ensures { λ r. ⌜ Is r (Apart (g .v) (given g (now (q .entry)) .stack) (given g (now (q .entry)) .array a) (given g (now (q .entry)) .set s1) (given g (now (q .entry)) .set s2)) ⌝ }
-{
-    let x = met(g.unnamed, heap_at(q, arrays, g, a, s1));
-    let y = met(g.unnamed, heap_at(q, arrays, g, a, s2));
-    x & y == 0
-}
-
-// SAME.
-fn is_same(q: &[u8], arrays: &[[u8; 6]; 32], g: Setting, a: usize, b: usize, s: usize) -> bool
-    requires { ⌜ Ready g (now q) (now arrays) × (a < g .arrays) × (b < g .arrays) × (s < g .sets) ⌝ }
-    ensures { λ r. ⌜ Is r (Same (given g (now (q .entry)) .array a) (given g (now (q .entry)) .array b) (given g (now (q .entry)) .set s)) ⌝ }
-{
-    heap_at(q, arrays, g, a, s) == heap_at(q, arrays, g, b, s)
-}
-
-// Whether the last row of node k's rows holds, over array a and set s, where the next array is i and the next set j.
-fn node(
-    q: &[u8],
-    arrays: &[[u8; 6]; 32],
-    f: &[u8],
-    g: Setting,
-    k: usize,
-    a: usize,
-    s: usize,
-    i: usize,
-    j: usize,
-) -> Told
-    requires { ⌜ Ready g (now q) (now arrays) × Sound (g .v) (now f) (nodes (now f)) × (k < nodes (now f)) × Within g (tree (now f) k) a s i j ⌝ }
-    ensures { λ r. ⌜ Judged g (now (q .entry)) (tree (now (f .entry)) k) a s i j r ⌝ }
-{
-    let op = f[3 * k];
-    let x = f[3 * k + 1];
-    let y = f[3 * k + 2];
-    match op {
-        1..=4 => Told {
-            holds: atom(q, arrays, g, op, long(x), long(y), a, s),
-            array: i,
-            set: j,
-        },
-        5..=10 => join(q, arrays, f, g, k, op, wide(x), wide(y), a, s, i, j),
-        _ => Told {
-            holds: false,
-            array: i,
-            set: j,
-        },
-    }
-}
-
-// The same of a connective over the nodes x and y.
-fn join(
-    q: &[u8],
-    arrays: &[[u8; 6]; 32],
-    f: &[u8],
-    g: Setting,
-    k: usize,
-    op: u8,
-    x: usize,
-    y: usize,
-    a: usize,
-    s: usize,
-    i: usize,
-    j: usize,
-) -> Told
-    requires { ⌜ Ready g (now q) (now arrays) × Sound (g .v) (now f) (nodes (now f)) × (k < nodes (now f)) × (x < k) × (y < k) × (5 ≤ op) × (op ≤ 10) × Within g (joinOf op (tree (now f) x) (tree (now f) y)) a s i j ⌝ }
-    ensures { λ r. ⌜ Judged g (now (q .entry)) (joinOf op (tree (now (f .entry)) x) (tree (now (f .entry)) y)) a s i j r ⌝ }
-{
-    match op {
-        5 => {
-            let t = both(q, arrays, f, g, k, x, y, a, s, s, i, j);
-            Told {
-                holds: and(t.first, t.second),
-                array: t.array,
-                set: t.set,
-            }
-        }
-        6 => {
-            let t = both(q, arrays, f, g, k, x, y, a, s, s, i, j);
-            Told {
-                holds: or(t.first, t.second),
-                array: t.array,
-                set: t.set,
-            }
-        }
-        7 => {
-            let t = both(q, arrays, f, g, k, x, y, a, s, s, i, j);
-            Told {
-                holds: and(t.first, !t.second),
-                array: t.array,
-                set: t.set,
-            }
-        }
-        8 => {
-            let t = node(q, arrays, f, g, x, a, s, i, j);
-            Told {
-                holds: !t.holds,
-                array: t.array,
-                set: t.set,
-            }
-        }
-        9 => {
-            let t = both(q, arrays, f, g, k, x, y, a, j, j + 1, i, j + 2);
-            let h = and(and(t.first, t.second), is_split(q, g, s, j, j + 1));
-            Told {
-                holds: and(h, is_apart(q, arrays, g, a, j, j + 1)),
-                array: t.array,
-                set: t.set,
-            }
-        }
-        _ => {
-            let t = both(q, arrays, f, g, k, x, y, i, j, j + 1, i + 1, j + 2);
-            let h = and(and(t.first, t.second), is_split(q, g, j + 1, j, s));
-            let e = and(h, is_apart(q, arrays, g, i, j, s));
-            Told {
-                holds: and(e, is_same(q, arrays, g, a, i, s)),
-                array: t.array,
-                set: t.set,
-            }
-        }
-    }
-}
-
-// The same of the nodes x and y, over one array and two sets.
-fn both(
-    q: &[u8],
-    arrays: &[[u8; 6]; 32],
-    f: &[u8],
-    g: Setting,
-    k: usize,
-    x: usize,
-    y: usize,
-    a: usize,
-    s: usize,
-    t: usize,
-    i: usize,
-    j: usize,
-) -> Pair
-    requires { ⌜ Ready g (now q) (now arrays) × Sound (g .v) (now f) (nodes (now f)) × (k < nodes (now f)) × (x < k) × (y < k) × WithinBoth g (tree (now f) x) (tree (now f) y) a s t i j ⌝ }
-    ensures { λ r. ⌜ JudgedBoth g (now (q .entry)) (tree (now (f .entry)) x) (tree (now (f .entry)) y) a s t i j r ⌝ }
-{
-    let u = node(q, arrays, f, g, x, a, s, i, j);
-    let w = node(q, arrays, f, g, y, a, t, u.array, u.set);
-    Pair {
-        first: u.holds,
-        second: w.holds,
-        array: w.array,
-        set: w.set,
-    }
-}
-
-// Six values at the most: n bytes from a place on, and zeros.
-fn row(q: &[u8], at: usize, n: usize) -> [u8; 6]
-    requires { ⌜ (n ≤ most) × (at + n ≤ length (now q)) ⌝ }
-    ensures { λ r. ⌜ ((j : ℕ) → getD r j 0 ≡ pick (ltb j n) (getD (now (q .entry)) (at + j) 0) 0) × (length r ≡ most) ⌝ }
-{
-    let mut r = [0u8; 6];
-    let mut j: usize = 0;
-    while j < n {
-        r[j] = q[at + j];
-        j += 1;
-    }
-    r
-}
-
-// The arrays, indexed by array number and then by location.
-fn unpack(q: &[u8], v: usize, n: usize, arrays: usize) -> [[u8; 6]; 32]
-    requires { ⌜ (n ≤ most) × (arrays ≤ mostArrays) × (v + arrays * n ≤ length (now q)) ⌝ }
-    ensures { λ r. ⌜ Unpacked v n arrays (now (q .entry)) r ⌝ }
-{
-    let mut a = [[0u8; 6]; 32];
-    let mut at = v;
-    let mut i: usize = 0;
-    while i < arrays {
-        a[i] = row(q, at, n);
-        at += n;
-        i += 1;
-    }
-    a
-}
+ghost use Rattle.assign.specs.Judging.{Judging};
 
 // How many nodes have an operator above o.
 fn above(f: &[u8], o: u8) -> usize
@@ -360,7 +67,7 @@ fn is_value(base: usize, n: usize, top: u64, i: usize, x: u8) -> bool
 
 // Whether the bytes are an assignment over v variables, n locations, and so many arrays and sets: 21, 22.
 fn in_range(q: &[u8], v: usize, n: usize, arrays: usize, sets: usize) -> Answer
-    requires { ⌜ (v ≤ most) × (n ≤ most) × (arrays ≤ mostArrays) × (sets ≤ mostSets) × (arrays * n ≤ 192) ⌝ }
+    requires { ⌜ (v ≤ most) × (n ≤ most) × (arrays ≤ mostArrays) × (sets ≤ mostSets) × (arrays * n ≤ mostArrays * most) ⌝ }
     ensures { λ r. ⌜ Answers (assignmentChecks v n arrays sets (now (q .entry))) Yes r ⌝ }
 {
     let base = v + arrays * n;
@@ -379,23 +86,23 @@ fn in_range(q: &[u8], v: usize, n: usize, arrays: usize, sets: usize) -> Answer
 }
 
 // Whether an assignment in range satisfies the table of the formula.
-fn satisfies(q: &[u8], f: &[u8], v: usize, n: usize, p: u8, arrays: usize, sets: usize) -> bool
+fn satisfies(q: &[u8], f: &[u8], v: u64, n: u64, p: u64, arrays: usize, sets: usize) -> bool
     requires { ⌜ Judging (now q) (now f) v n arrays sets ⌝ }
     ensures { λ r. ⌜ Is r (Satisfies v (assigned v n arrays (now (q .entry))) (table p (tree (now (f .entry)) (root (now (f .entry)))))) ⌝ }
 {
-    let stack = packed(q, 0, v, false);
+    let stack = packed(q, 0, v as usize, false);
     let g = Setting {
-        v: v as u64,
-        n: n as u64,
-        p: long(p),
+        v,
+        n,
+        p,
         arrays,
         sets,
-        base: v + arrays * n,
+        base: v as usize + arrays * (n as usize),
         stack,
-        unnamed: unnamed(v as u64, n as u64, stack),
+        unnamed: unnamed(v, n, stack),
     };
-    let cells = unpack(q, v, n, arrays);
-    let t = node(q, &cells, f, g, f.len() / 3 - 1, 0, 0, 1, 1);
+    let values = unpack(q, v as usize, n as usize, arrays);
+    let t = node(q, &values, f, g, f.len() / 3 - 1, 0, 0, 1, 1);
     t.holds
 }
 
@@ -404,24 +111,24 @@ fn satisfies(q: &[u8], f: &[u8], v: usize, n: usize, p: u8, arrays: usize, sets:
 pub fn assign(book: &[u8], assignment: &[u8]) -> Answer
     ensures { λ r. ⌜ Assigns (now (book .entry)) (now (assignment .entry)) r ⌝ }
 {
-    let first = book::read(book);
+    let opened = open(book);
+    let first = opened.answer;
     if first.number != logic::YES {
         return first;
     }
-    let b = body(book, 0);
-    let f = body(book, 1);
+    let f = part(book, 1);
     if !encodable(f, f.len() / 3 - 1) {
         return answer_of(logic::NOT_ENCODABLE, 0);
     }
-    let v = wide(b[0]);
-    let n = wide(b[1]);
+    let v = opened.v;
+    let n = opened.n;
     let arrays = 1 + above(f, 9);
     let sets = 1 + 2 * above(f, 8);
-    let second = in_range(assignment, v, n, arrays, sets);
+    let second = in_range(assignment, v as usize, n as usize, arrays, sets);
     if second.number != logic::YES {
         return second;
     }
-    if satisfies(assignment, f, v, n, b[2], arrays, sets) {
+    if satisfies(assignment, f, v, n, opened.p, arrays, sets) {
         answer_of(logic::YES, 0)
     } else {
         answer_of(logic::NO, 0)

@@ -1,4 +1,5 @@
 // The contents of a problem book: whether they are as stated, and the stretch of the caller's bytes that is an entry's body.
+use leaves::wide;
 ghost use mathlib.Core.Path.{_≡_};
 ghost use Prim.Native.Nat.{_+_, _<_};
 ghost use lib.ListN.{length};
@@ -12,12 +13,6 @@ ghost use Rattle.logic.specs.Book.{word, offset, size, stretch, contentsChecks,
 pub struct Stretch {
     pub start: u64,
     pub length: u64,
-}
-
-pub fn wide(x: u8) -> usize
-    ensures { λ r. ⌜ (r ≡ x) × (r < 256) ⌝ }
-{
-    x as usize
 }
 
 // Two bytes, low first.

@@ -1,5 +1,2 @@
-pub mod Written
-pub mod WrittenLaws
-pub mod EncodedLaws
-pub mod EncodableLaws
+pub mod Writable
 pub mod EncodeLaws

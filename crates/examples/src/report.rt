@@ -3,13 +3,10 @@
 // A line's fields are: its place in the document; the bounds v n p; the formula; what the document states of it: `found` or
 // `none` of all models within the bounds, `fits` or `not` of the model that follows. A fifth field has an assignment that
 // satisfies the formula's encoding and yields that model.
-use crate::notation;
-use crate::notation::front;
-use crate::notation::front_of_page;
-use crate::second;
 use crate::sweep;
 use crate::sweep::Swept;
-use contents::wide;
+use notation::front;
+use notation::front_of_page;
 ghost use Prim.Native.Nat.{_<_, _≤_};
 ghost use lib.ListN.{length};
 
@@ -24,8 +21,8 @@ pub struct Tally {
     pub beyond: u64,
 }
 
-pub fn say(text: &[u8]) {
-    io::write_all(1, text);
+pub fn say(words: &[u8]) {
+    io::write_all(1, words);
 }
 
 fn counted(t: Tally, right: bool, beyond: bool) -> Tally {
@@ -52,7 +49,7 @@ fn same_search(book: &[u8], bounds: [u8; 3], swept: Swept) -> bool {
         return a.number == logic::NO && a.tried == swept.all;
     }
     let w = second::world_of(bounds[1], bounds[2], swept.stack);
-    let model = sweep::model_of(bounds[0], bounds[1], w, swept.heap);
+    let model = second::model_of(bounds[0], bounds[1], w, swept.heap);
     a.number == logic::YES && a.tried == swept.first && check::same(&out, &model)
 }
 
@@ -119,14 +116,14 @@ fn assigned(
     end(t, a.number == logic::YES && swept.fits, book, bounds, swept)
 }
 
-// Where the byte c next stands, from `from` on; the text's end if it does not.
-fn find(text: &[u8], c: u8, from: usize) -> usize
-    requires { ⌜ from ≤ length (now text) ⌝ }
-    ensures { λ r. ⌜ (from ≤ r) × (r ≤ length (now (text .entry))) ⌝ }
+// Where the byte c next stands, from `from` on; the end if it does not.
+fn find(bytes: &[u8], c: u8, from: usize) -> usize
+    requires { ⌜ from ≤ length (now bytes) ⌝ }
+    ensures { λ r. ⌜ (from ≤ r) × (r ≤ length (now (bytes .entry))) ⌝ }
 {
     let mut i = from;
-    while i < text.len() {
-        if text[i] == c {
+    while i < bytes.len() {
+        if bytes[i] == c {
             return i;
         }
         i += 1;
@@ -134,13 +131,13 @@ fn find(text: &[u8], c: u8, from: usize) -> usize
     i
 }
 
-// The place behind the next byte c; the text's end if there is none.
-fn behind(text: &[u8], c: u8, from: usize) -> usize
-    requires { ⌜ from ≤ length (now text) ⌝ }
-    ensures { λ r. ⌜ (from ≤ r) × (r ≤ length (now (text .entry))) × (from < length (now (text .entry)) → from < r) ⌝ }
+// The place behind the next byte c; the end if there is none.
+fn behind(bytes: &[u8], c: u8, from: usize) -> usize
+    requires { ⌜ from ≤ length (now bytes) ⌝ }
+    ensures { λ r. ⌜ (from ≤ r) × (r ≤ length (now (bytes .entry))) × (from < length (now (bytes .entry)) → from < r) ⌝ }
 {
-    let at = find(text, c, from);
-    if at < text.len() {
+    let at = find(bytes, c, from);
+    if at < bytes.len() {
         return at + 1;
     }
     at
@@ -189,14 +186,14 @@ fn run_line(t: Tally, line: &[u8]) -> Tally {
     assigned(t, book, b, &values, count, &wanted)
 }
 
-// Runs the examples of a text, one to a line.
-pub fn run(t: Tally, text: &[u8]) -> Tally {
+// Runs the examples, one to a line.
+pub fn run(t: Tally, lines: &[u8]) -> Tally {
     let mut next = t;
     let mut at = 0;
-    while at < text.len() {
-        let end = find(text, b'\n', at);
-        next = run_line(next, &text[at..end]);
-        at = behind(text, b'\n', at);
+    while at < lines.len() {
+        let end = find(lines, b'\n', at);
+        next = run_line(next, &lines[at..end]);
+        at = behind(lines, b'\n', at);
     }
     next
 }

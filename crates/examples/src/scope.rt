@@ -1,9 +1,8 @@
 // Document 01's examples: P1's bytes, and those that document 01 wants proved once more, beside the second judge.
-use crate::notation;
-use crate::notation::front_of_page;
 use crate::report::Tally;
 use crate::report::compared;
 use crate::report::run;
+use notation::front_of_page;
 
 const P1_BOOK: [u8; 17] = [2, 1, 11, 0, 3, 0, 2, 14, 0, 3, 0, 1, 1, 1, 3, 1, 1];
 
@@ -64,7 +63,7 @@ pub fn bytes_of_p1(t: Tally) -> Tally {
     let encoding = P1_ENCODING;
     let with_rows = compared(with_book, b"01 P1, the encoding", &rows, &encoding);
     let mut printed = [0u8; 256];
-    let length = text::put_text(&book, &mut printed);
+    let length = print::put_printed(&book, &mut printed);
     compared(
         with_rows,
         b"01 P1, the text of shape",

@@ -1,8 +1,7 @@
 // Both judges on every candidate of a book, in the candidates' order.
-use crate::notation::front;
-use crate::second;
-use crate::second::World;
-use contents::wide;
+use leaves::wide;
+use notation::front;
+use second::World;
 
 // What a sweep has seen: how many candidates, on how many of them the judges agree, the number of the first that fits by the
 // second judge, plus 1 (0: none), with its stack and heap, and whether the model that is looked for fits by the second judge.
@@ -15,29 +14,6 @@ pub struct Swept {
     pub fits: bool,
 }
 
-// Byte i of the model with this stack and heap, v variables and n locations; 0 behind its end.
-fn model_byte(v: u8, n: u8, w: World, h: u8, i: u8) -> u8 {
-    if i < v {
-        return second::digit(w.stack, w.stack_base, i + 1);
-    }
-    if n <= i - v {
-        return 0;
-    }
-    let d = second::digit(h, w.heap_base, i - v + 1);
-    if d == 0 {
-        return 255;
-    }
-    d - 1
-}
-
-pub fn model_of(v: u8, n: u8, w: World, h: u8) -> [u8; 12] {
-    let mut model = [0u8; 12];
-    for i in 0..12 {
-        model[wide(i)] = model_byte(v, n, w, h, i);
-    }
-    model
-}
-
 // One candidate more, with the stack of w and this heap: both judges on it; `fits` is what the second says.
 fn compare(
     mut t: Swept,
@@ -48,7 +24,7 @@ fn compare(
     h: u8,
     fits: bool,
 ) -> Swept {
-    let model = model_of(bounds[0], bounds[1], w, h);
+    let model = second::model_of(bounds[0], bounds[1], w, h);
     let size = wide(bounds[0]) + wide(bounds[1]);
     let a = model::judge(book, front(&model, size));
     t.all = std::num::wrapping_add_u64(t.all, 1);
@@ -73,7 +49,7 @@ fn sweep_stack(t: Swept, book: &[u8], wanted: &[u8; 12], bounds: [u8; 3], stack:
     let f = &book[14..];
     let root = f.len() / 3 - 1;
     let w = second::world_of(bounds[1], bounds[2], stack);
-    let mut sets = [0u8; 8000];
+    let mut sets = [0u8; second::ROOM];
     second::fill(&mut sets, f, w);
     let heaps = w.heaps;
     let mut next = t;

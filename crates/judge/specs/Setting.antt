@@ -8,6 +8,7 @@ use lib.ListN.{getD}
 use Rattle.logic.specs.Heap.{Map, Stack, Heap, StronglyDisjoint}
 use Rattle.logic.specs.Formula.{Form}
 use Rattle.logic.specs.Table.{opOf, operandOf, Sound, tree}
+use Rattle.logic.specs.Book.{mostNodes}
 use Rattle.logic.specs.Tests.{inPart, union, sepAt}
 use Rattle.logic.specs.Truth.{truth}
 use Rattle.logic.specs.Reflect.{Is}
@@ -32,7 +33,7 @@ unnamedOf b = getD b 4 0
 
 -- as many nodes as a table has room for
 abbrev pub room : ℕ
-room = 64
+room = mostNodes
 
 -- node k of table f can be judged in setting b: the nodes up to it are as they should be, and the setting is right
 pub record Ready (f b : List ℕ) (k : ℕ) : Type 0 where

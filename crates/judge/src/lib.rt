@@ -11,6 +11,9 @@ use cells::source_below;
 use cells::spread;
 use cells::table;
 use cells::taken;
+use leaves::long;
+use leaves::wide;
+use logic::Table;
 ghost use mathlib.Core.Path.{_≡_};
 ghost use mathlib.Core.Bool.{true};
 ghost use Prim.Native.Nat.{suc, _-_, _≤_, _<_, _^_};
@@ -23,20 +26,8 @@ ghost use Rattle.judge.specs.Setting.{locsOf, unnamedOf, Ready, Joined, 
 // The mark that no part serves: one more than the greatest part.
 pub const NONE: u64 = 256;
 
-fn long(x: u8) -> u64
-    ensures { λ r. ⌜ r ≡ x ⌝ }
-{
-    x as u64
-}
-
-fn wide(x: u8) -> usize
-    ensures { λ r. ⌜ r ≡ x ⌝ }
-{
-    x as usize
-}
-
 // Operators 1 to 4, over variables.
-fn atom(f: &[u8; 192], k: usize, b: &[u64; 5], w: u64) -> bool
+fn atom(f: &Table, k: usize, b: &[u64; 5], w: u64) -> bool
     requires { ⌜ (opOf (now f) k ≤ 4) × Ready (now f) (now b) k × Heap (locsOf (now b)) (cells w) ⌝ }
     ensures { λ r. ⌜ r ≡ truthAt (now (f .entry)) (now (b .entry)) k (cells w) ⌝ }
 {
@@ -53,7 +44,7 @@ fn atom(f: &[u8; 192], k: usize, b: &[u64; 5], w: u64) -> bool
 
 // Whether node k of the table f holds on the heap w. b has v, n, p, the packed stack and the set of the locations that are
 // not named: see specs/Setting.antt.
-pub fn node_holds(f: &[u8; 192], k: usize, b: &[u64; 5], w: u64) -> bool
+pub fn node_holds(f: &Table, k: usize, b: &[u64; 5], w: u64) -> bool
     requires { ⌜ Ready (now f) (now b) k × Heap (locsOf (now b)) (cells w) ⌝ }
     ensures { λ r. ⌜ r ≡ truthAt (now (f .entry)) (now (b .entry)) k (cells w) ⌝ }
 {
@@ -67,7 +58,7 @@ pub fn node_holds(f: &[u8; 192], k: usize, b: &[u64; 5], w: u64) -> bool
 
 // The same for a node that is a child. With two callers `join` is compiled apart, so that an atom saves no registers: all
 // formulas are judged a tenth to a third faster.
-fn child_holds(f: &[u8; 192], k: usize, b: &[u64; 5], w: u64) -> bool
+fn child_holds(f: &Table, k: usize, b: &[u64; 5], w: u64) -> bool
     requires { ⌜ Ready (now f) (now b) k × Heap (locsOf (now b)) (cells w) ⌝ }
     ensures { λ r. ⌜ r ≡ truthAt (now (f .entry)) (now (b .entry)) k (cells w) ⌝ }
 {
@@ -79,14 +70,14 @@ fn child_holds(f: &[u8; 192], k: usize, b: &[u64; 5], w: u64) -> bool
     }
 }
 
-fn a_holds(f: &[u8; 192], k: usize, b: &[u64; 5], w: u64) -> bool
+fn a_holds(f: &Table, k: usize, b: &[u64; 5], w: u64) -> bool
     requires { ⌜ Joined (now f) (now b) k × Heap (locsOf (now b)) (cells w) ⌝ }
     ensures { λ r. ⌜ r ≡ firstAt (now (f .entry)) (now (b .entry)) k (cells w) ⌝ }
 {
     child_holds(f, wide(f[3 * k + 1]), b, w)
 }
 
-fn b_holds(f: &[u8; 192], k: usize, b: &[u64; 5], w: u64) -> bool
+fn b_holds(f: &Table, k: usize, b: &[u64; 5], w: u64) -> bool
     requires { ⌜ Joined (now f) (now b) k × Heap (locsOf (now b)) (cells w) ⌝ }
     ensures { λ r. ⌜ r ≡ secondAt (now (f .entry)) (now (b .entry)) k (cells w) ⌝ }
 {
@@ -94,7 +85,7 @@ fn b_holds(f: &[u8; 192], k: usize, b: &[u64; 5], w: u64) -> bool
 }
 
 // Whether a holds on g and b on h: a before b, and b only where it can still decide.
-fn both(f: &[u8; 192], k: usize, b: &[u64; 5], g: u64, h: u64) -> bool
+fn both(f: &Table, k: usize, b: &[u64; 5], g: u64, h: u64) -> bool
     requires { ⌜ Joined (now f) (now b) k × Heap (locsOf (now b)) (cells g) × Heap (locsOf (now b)) (cells h) ⌝ }
     ensures { λ r. ⌜ r ≡ andb (firstAt (now (f .entry)) (now (b .entry)) k (cells g)) (secondAt (now (f .entry)) (now (b .entry)) k (cells h)) ⌝ }
 {
@@ -106,7 +97,7 @@ fn both(f: &[u8; 192], k: usize, b: &[u64; 5], g: u64, h: u64) -> bool
 }
 
 // Operators 5 to 10, over lower nodes.
-fn join(f: &[u8; 192], k: usize, b: &[u64; 5], w: u64) -> bool
+fn join(f: &Table, k: usize, b: &[u64; 5], w: u64) -> bool
     requires { ⌜ Joined (now f) (now b) k × Heap (locsOf (now b)) (cells w) ⌝ }
     ensures { λ r. ⌜ r ≡ truthAt (now (f .entry)) (now (b .entry)) k (cells w) ⌝ }
 {
@@ -134,7 +125,7 @@ fn join(f: &[u8; 192], k: usize, b: &[u64; 5], w: u64) -> bool
 }
 
 // The lowest part that serves, or the mark that none does. Parts are subsets of the allocated set, tried upward.
-fn split(f: &[u8; 192], k: usize, b: &[u64; 5], w: u64) -> u64
+fn split(f: &Table, k: usize, b: &[u64; 5], w: u64) -> u64
     requires { ⌜ Joined (now f) (now b) k × Heap (locsOf (now b)) (cells w) ⌝ }
     ensures { λ r. ⌜ Chosen (servesAt (now (f .entry)) (now (b .entry)) k w) (2 ^ locsOf (now (b .entry))) r ⌝ }
 {
@@ -154,7 +145,7 @@ fn split(f: &[u8; 192], k: usize, b: &[u64; 5], w: u64) -> u64
 }
 
 // Whether part m of w serves, where all its locations are allocated; t is w's table.
-fn serves(f: &[u8; 192], k: usize, b: &[u64; 5], w: u64, t: u64, m: u64) -> bool
+fn serves(f: &Table, k: usize, b: &[u64; 5], w: u64, t: u64, m: u64) -> bool
     requires { ⌜ Joined (now f) (now b) k × Heap (locsOf (now b)) (cells w) × Tabled (unnamedOf (now b)) w t × (m < full) × (within (locsOf (now b)) m (cells w) ≡ true) ⌝ }
     ensures { λ r. ⌜ r ≡ servesAt (now (f .entry)) (now (b .entry)) k w m ⌝ }
 {
@@ -168,7 +159,7 @@ fn serves(f: &[u8; 192], k: usize, b: &[u64; 5], w: u64, t: u64, m: u64) -> bool
 
 // Whether some added heap serves. Only locations where a cell may be added are filled, from the last down and each digit
 // upward: that is the candidates' order. No added cell may touch the barred locations, which are w's unnamed ones.
-fn added(f: &[u8; 192], k: usize, b: &[u64; 5], w: u64) -> bool
+fn added(f: &Table, k: usize, b: &[u64; 5], w: u64) -> bool
     requires { ⌜ Joined (now f) (now b) k × Heap (locsOf (now b)) (cells w) ⌝ }
     ensures { λ r. ⌜ Found (now (f .entry)) (now (b .entry)) k w (locsOf (now (b .entry))) 0 r ⌝ }
 {
@@ -181,7 +172,7 @@ fn added(f: &[u8; 192], k: usize, b: &[u64; 5], w: u64) -> bool
 }
 
 // Whether some heap serves that is g above location l, where a cell may be.
-fn fill(f: &[u8; 192], k: usize, b: &[u64; 5], w: u64, barred: u64, l: u64, g: u64) -> bool
+fn fill(f: &Table, k: usize, b: &[u64; 5], w: u64, barred: u64, l: u64, g: u64) -> bool
     requires { ⌜ Joined (now f) (now b) k × Heap (locsOf (now b)) (cells w) × Filled (locsOf (now b)) (unnamedOf (now b)) w barred l g × (0 < l) × Source w barred l ⌝ }
     ensures { λ r. ⌜ Found (now (f .entry)) (now (b .entry)) k w l g r ⌝ }
 {
@@ -199,7 +190,7 @@ fn fill(f: &[u8; 192], k: usize, b: &[u64; 5], w: u64, barred: u64, l: u64, g: u
 
 // The same with digit d at l; the location to fill after l is `next`.
 fn digit(
-    f: &[u8; 192],
+    f: &Table,
     k: usize,
     b: &[u64; 5],
     w: u64,

@@ -15,6 +15,10 @@ use Rattle.logic.specs.Table.{OperatorOk, OperandsOk, Sound, Tree, uses,
 abbrev pub most : ℕ
 most = 6
 
+-- the most nodes that a formula has: "1 to 64 nodes"
+abbrev pub mostNodes : ℕ
+mostNodes = 64
+
 -- "two bytes, low first"
 abbrev pub word : List ℕ → ℕ → ℕ
 word s i = getD s i 0 + 256 * getD s (i + 1) 0
@@ -106,6 +110,12 @@ bookChecks s = contentsChecks s then (bodyChecks (stretch s 0) (formulaOf s) the
 unfoldable pub Reads : List ℕ → Answer → Type 0
 Reads s a = Answers (bookChecks s) (λ r. r ≡ answer yes-number 0) a
 
+-- what opening the book s gives: the reader's answer and, for an accepted book, its bounds
+pub record Opens (s : List ℕ) (a : Answer) (v n p : ℕ) : Type 0 where
+  pub answer : Reads s a
+  pub bounds : a .number ≡ yes-number → (v ≡ varsOf s) × (n ≡ locsOf s) × (p ≡ pathOf s)
+  pub none : ¬ (a .number ≡ yes-number) → (v ≡ 0) × (n ≡ 0) × (p ≡ 0)
+
 -- the book is as document 01 says, in every part
 unfoldable pub Accepted : List ℕ → Type 0
 Accepted s = Passes (bookChecks s)
@@ -119,10 +129,26 @@ pub record Whole (s : List ℕ) : Type 0 where
   pub laid : LaidOut s
   pub bounds : BoundsOk (stretch s 0)
   pub some : 0 < nodes (formulaOf s)
-  pub few : nodes (formulaOf s) ≤ 64
+  pub few : nodes (formulaOf s) ≤ mostNodes
   pub bytes : length (formulaOf s) ≡ 3 * nodes (formulaOf s)
   pub sound : Sound (varsOf s) (formulaOf s) (nodes (formulaOf s))
   pub tree : Tree (formulaOf s) (nodes (formulaOf s))
+
+-- the table f of v variables, as the reader accepts it
+pub record Known (v : ℕ) (f : List ℕ) : Type 0 where
+  pub some : 0 < nodes f
+  pub few : nodes f ≤ mostNodes
+  pub bytes : length f ≡ 3 * nodes f
+  pub sound : Sound v f (nodes f)
+  pub tree : Tree f (nodes f)
+
+-- the accepted book s has the formula f and the bounds v, n and p
+pub record Bodies (s f : List ℕ) (v n p : ℕ) : Type 0 where
+  pub accepted : Accepted s
+  pub vars : v ≡ varsOf s
+  pub locs : n ≡ locsOf s
+  pub path : p ≡ pathOf s
+  pub formula : f ≡ formulaOf s
 
 -- what `body` hands back: "an empty one if the book is refused before 12, or for an entry other than 0 or 1"
 abbrev pub Given : List ℕ → ℕ → Type 0

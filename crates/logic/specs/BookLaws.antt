@@ -3,7 +3,7 @@
 use mathlib.Core.Path.{_≡_, sym, _∙_, ap, ap₂, subst₂}
 use mathlib.Core.List.{List}
 use mathlib.Core.Logic.{⊎-elim}
-use Prim.Native.Nat.{ℕ, zero, suc, _+_, _-_, _≤_}
+use Prim.Native.Nat.{ℕ, zero, suc, _+_, _-_, _*_, _≤_}
 use native.Mathlib.Omega.{arith}
 use lib.ListN.{length, getD, take, drop, length-take, length-drop}
 use Rattle.logic.specs.declared.Answer.{Answer}
@@ -11,7 +11,7 @@ use Rattle.logic.specs.Numbers.{answer}
 use Rattle.logic.specs.Checks.{Checks, _then_, upto, Passes, Answers}
 use Rattle.logic.specs.CheckLaws.{Single, Yes, Refuses, answers-single, yes-single, answers-zero, passes-of-yes, fails-of-refused, answers-split, then-passes, passes-at, answers-refused, answers-after, refuses-then, refuses-upto}
 use Rattle.logic.specs.Table.{Sound}
-use Rattle.logic.specs.Book.{offset, size, stretch, LaidOut, Given, varsOf, formulaOf, nodes, root, contentsChecks, bodyChecks, nodeChecks, useChecks, tableChecks, bookChecks, Reads, Accepted, Whole, Body, Placed}
+use Rattle.logic.specs.Book.{mostNodes, offset, size, stretch, LaidOut, Given, varsOf, formulaOf, nodes, root, contentsChecks, bodyChecks, nodeChecks, useChecks, tableChecks, bookChecks, Reads, Accepted, Whole, Body, Placed}
 
 -- two answers that the reader's statement allows are equal, and so are two bodies and two places
 pub reads-single : (s : List ℕ) → Single (Reads s)
@@ -80,9 +80,11 @@ pub body-given : (s : List ℕ) (e : ℕ) (r : List ℕ) → Body s e r → Give
 unfolding Body
 body-given s e r q g = ⊎-elim (λ x. x .1) (λ x. absurd (x .0 g)) q
 
--- a body is no longer than the book
-pub body-short : (s : List ℕ) (e : ℕ) (r : List ℕ) → Given s e → r ≡ stretch s e → length r ≤ 206
-body-short s e r g q = omega (arith, ap length q, stretch-length s e g, stretch-short s e g)
+-- a book has no room for more than 64 nodes
+pub formula-short : (s : List ℕ) → LaidOut s → length (stretch s 0) ≡ 3 → length (formulaOf s) ≤ 3 * mostNodes
+formula-short s g three =
+    let bounds : size s 0 ≡ 3 = sym (stretch-length s 0 (g, omega arith)) ∙ three in
+    omega (arith, stretch-length s 1 (g, omega arith), stretch-fits s 1 (g, omega arith), g .0 .1, g .1 .first, g .1 .second)
 
 -- ---- an accepted book
 
@@ -127,22 +129,16 @@ module _ (s : List ℕ) (ok : Accepted s) where
       let laid′ : LaidOut s = (parts .0 .0, parts .0 .1 .0) in
       let b = parts .1 .0 .0 in
       let f = parts .1 .0 .1 .0 in
-      let fits : length (formulaOf s) ≤ 192 = short (stretch-fits s 1 (laid′, omega arith)) in
+      let fits = formula-short s laid′ (b .three) in
       record {
         laid = laid′;
         bounds = b;
         some = omega (arith, f .0, f .1);
-        few = omega arith;
+        few = omega (arith, fits);
         bytes = omega (arith, f .1);
         sound = nodes-sound (varsOf s) (formulaOf s) (parts .1 .1 .0);
         tree = λ k l. passes-at (useChecks (formulaOf s)) (root (formulaOf s)) (parts .1 .1 .1) k (omega arith) .0;
       }
-    where
-      short : offset s 1 + size s 1 ≤ length s → length (formulaOf s) ≤ 192
-      short h = rw (length-take, length-drop) (omega (arith, parts .0 .0 .1, parts .0 .1 .0 .first, parts .0 .1 .0 .second, bounds-three))
-        where
-          bounds-three : size s 0 ≡ 3
-          bounds-three = sym (stretch-length s 0 ((parts .0 .0, parts .0 .1 .0), omega arith)) ∙ parts .1 .0 .0 .three
 
 -- ---- the reader's answer, from the answers of its four steps
 

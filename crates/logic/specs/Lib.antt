@@ -12,6 +12,7 @@ pub mod Agree
 pub mod Chains
 pub mod TruthHolds
 pub mod Book
+pub mod PlacedLaws
 pub mod CheckLaws
 pub mod Model
 pub mod Computed
@@ -21,9 +22,11 @@ pub mod TableLaws
 pub mod NodeLaws
 pub mod Entries
 pub mod BookLaws
+pub mod OpenLaws
 pub mod Candidates
 pub mod NumberLaws
 pub mod CandidateLaws
+pub mod TotalLaws
 pub mod Search
 pub mod Trials
 pub mod SearchLaws

@@ -6,11 +6,11 @@ use Prim.Native.Nat.{ℕ, zero, suc, _+_, _<_, _≤_}
 use native.Mathlib.Omega.{arith}
 use lib.ListN.{length}
 use Rattle.logic.specs.declared.Answer.{Answer}
-use Rattle.logic.specs.Numbers.{book-length, output-length}
+use Rattle.logic.specs.Numbers.{book-length}
 use Rattle.logic.specs.Checks.{Checks, done, check, _then_, upto, Passes, Answers}
 use Rattle.logic.specs.CheckLaws.{then-passes}
 use Rattle.logic.specs.Book.{stretch, varsOf, locsOf, formulaOf, nodes, root, contentsChecks, bodyChecks, nodeChecks, useChecks, tableChecks, bookChecks, Accepted}
-use Rattle.logic.specs.Search.{FitsAt, totalOf, Outcome, searchChecks, Searches}
+use Rattle.logic.specs.Search.{FitsAt, totalOf, Outcome, searchRest, searchChecks, Searches}
 
 -- the refusals of c have numbers from k on
 unfoldable pub From : ℕ → Checks → Type 0
@@ -53,7 +53,6 @@ pub record Answered (s : List ℕ) (b : ℕ) (o : List ℕ) (a : Answer) : Type 
 pub searches-answered : (s : List ℕ) (b : ℕ) (o : List ℕ) (a : Answer) (o′ : List ℕ) → Searches s b o a o′ → a .number < book-length → Answered s b o a
 unfolding From Passes Accepted
 searches-answered s b o a o′ q l =
-    let last = check (varsOf s + locsOf s ≤ length o) output-length 0 done in
-    let r = answers-below 10 (searchChecks s o) (Outcome (FitsAt s) (totalOf s) b) a (from-then 10 (bookChecks s) last (book-from s) (omega arith, tt)) (q .answer) l in
-    let p = then-passes (bookChecks s) last (r .0) in
+    let r = answers-below 10 (searchChecks s o) (Outcome (FitsAt s) (totalOf s) b) a (from-then 10 (bookChecks s) (searchRest s o) (book-from s) (omega arith, tt)) (q .answer) l in
+    let p = then-passes (bookChecks s) (searchRest s o) (r .0) in
     record { accepted = p .0; room = p .1 .0; outcome = r .1 }

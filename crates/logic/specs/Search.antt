@@ -48,9 +48,14 @@ pub data Outcome (P : ℕ → Type 0) (t b : ℕ) (a : Answer) : Type 0 where
   none : None P t b → a ≡ searched no-number t → Outcome P t b a
   spent : ((k : ℕ) → ¬ Found P t b k) → ¬ None P t b → a ≡ searched spent-number b → Outcome P t b a
 
+-- what a search asks of an accepted book and the output o: "20: output too short: under v+n bytes for a search, whatever it would
+-- find"
+abbrev pub searchRest : List ℕ → List ℕ → Checks
+searchRest s o = check (varsOf s + locsOf s ≤ length o) output-length 0 done
+
 -- "Order: 10 to 13; then nodes upwards, ..; 16; then .. 20 (search)"
 abbrev pub searchChecks : List ℕ → List ℕ → Checks
-searchChecks s o = bookChecks s then check (varsOf s + locsOf s ≤ length o) output-length 0 done
+searchChecks s o = bookChecks s then searchRest s o
 
 -- what a search of the book s with budget b over the output o gives back, and the output that it leaves: "Output bytes change
 -- only with number 0, only at the front, and only as many as are written."

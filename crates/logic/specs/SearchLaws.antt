@@ -13,7 +13,7 @@ use lib.ListN.{length, drop}
 use borrow.Author.Tests.{lt-ltb, le-ltb, le-leb, lt-leb}
 use Rattle.logic.specs.declared.Answer.{Answer}
 use Rattle.logic.specs.Numbers.{answer, yes-number, no-number, spent-number, output-length}
-use Rattle.logic.specs.Checks.{done, check, Passes, Answers}
+use Rattle.logic.specs.Checks.{Passes, Answers}
 use Rattle.logic.specs.CheckLaws.{Single, answers-single, answers-refused, answers-after, answers-rest, passes-then}
 use Rattle.logic.specs.Tests.{pick, heapOf}
 use Rattle.logic.specs.Reflect.{Is, fails}
@@ -22,7 +22,7 @@ use Rattle.logic.specs.TruthHolds.{truth-holds}
 use Rattle.logic.specs.Book.{bookFormula, bookChecks, varsOf, locsOf, pathOf, Reads, Accepted}
 use Rattle.logic.specs.Candidates.{stackOf, modelOf}
 use Rattle.logic.specs.CandidateLaws.{stackOf-stack}
-use Rattle.logic.specs.Search.{FitsAt, totalOf, Lowest, searched, Outcome, found, none, spent, searchChecks, Searches}
+use Rattle.logic.specs.Search.{FitsAt, totalOf, Lowest, searched, Outcome, found, none, spent, searchRest, searchChecks, Searches}
 use Rattle.logic.specs.Trials.{fitsAt, first, outcomeOf}
 
 -- ---- one answer and one output
@@ -76,7 +76,7 @@ module _ (s : List ℕ) (b : ℕ) (o : List ℕ) where
   unfolding Reads
   searches-refused a q f =
       record {
-        answer = answers-refused (bookChecks s) (Outcome (FitsAt s) (totalOf s) b) (check (varsOf s + locsOf s ≤ length o) output-length 0 done) a q f;
+        answer = answers-refused (bookChecks s) (Outcome (FitsAt s) (totalOf s) b) (searchRest s o) a q f;
         wrote = λ e. absurd (f e);
         kept = λ e. refl;
       }
@@ -86,7 +86,7 @@ module _ (s : List ℕ) (b : ℕ) (o : List ℕ) where
     unfolding Accepted Answers
     searches-short l =
         record {
-          answer = answers-after (bookChecks s) (check (varsOf s + locsOf s ≤ length o) output-length 0 done) (Outcome (FitsAt s) (totalOf s) b) (answer output-length 0) ok (inl (λ w. absurd (omega arith), refl));
+          answer = answers-after (bookChecks s) (searchRest s o) (Outcome (FitsAt s) (totalOf s) b) (answer output-length 0) ok (inl (λ w. absurd (omega arith), refl));
           wrote = λ e. absurd (omega arith);
           kept = λ e. refl;
         }
@@ -94,7 +94,7 @@ module _ (s : List ℕ) (b : ℕ) (o : List ℕ) where
     module _ (room : varsOf s + locsOf s ≤ length o) (a : Answer) (q : Outcome (FitsAt s) (totalOf s) b a) where
       pub outcome-answers : Answers (searchChecks s o) (Outcome (FitsAt s) (totalOf s) b) a
       unfolding Accepted Answers
-      outcome-answers = answers-after (bookChecks s) (check (varsOf s + locsOf s ≤ length o) output-length 0 done) (Outcome (FitsAt s) (totalOf s) b) a ok (inr (room, q))
+      outcome-answers = answers-after (bookChecks s) (searchRest s o) (Outcome (FitsAt s) (totalOf s) b) a ok (inr (room, q))
 
       pub searches-wrote : (o′ : List ℕ) → a .number ≡ yes-number → o′ ≡ modelOf (varsOf s) (locsOf s) (a .tried - 1) ++ drop (varsOf s + locsOf s) o → Searches s b o a o′
       searches-wrote o′ e w = record { answer = outcome-answers; wrote = λ _. w; kept = λ f. absurd (f e) }
@@ -107,7 +107,7 @@ module _ (s : List ℕ) (b : ℕ) (o : List ℕ) where
   unfolding Accepted Passes
   searches-outcome a o′ ok room q =
       answers-rest (searchChecks s o) (Outcome (FitsAt s) (totalOf s) b) a
-      (passes-then (bookChecks s) (check (varsOf s + locsOf s ≤ length o) output-length 0 done) ok (room, tt)) (q .answer)
+      (passes-then (bookChecks s) (searchRest s o) ok (room, tt)) (q .answer)
 
 -- ---- the search, worked out
 

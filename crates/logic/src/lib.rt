@@ -7,6 +7,14 @@ pub struct Answer {
     pub tried: u64,
 }
 
+// The most that v, n and p may be.
+pub const MOST: usize = 6;
+
+// A formula's table, with room for the most nodes that it may have.
+pub const TABLE: usize = 192;
+
+pub type Table = [u8; TABLE];
+
 // The numbers, as specs/Numbers.antt lists them.
 pub const YES: u64 = 0;
 

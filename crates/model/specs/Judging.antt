@@ -1,12 +1,12 @@
 -- From the judge's core to the judge's statement. Assumes nothing.
-use mathlib.Core.Path.{_≡_, sym, _∙_, ap, subst, subst₂, subst₃}
+use mathlib.Core.Path.{_≡_, sym, _∙_, ap, subst, subst₂}
 use mathlib.Core.Bool.{Bool, true, false}
 use mathlib.Core.List.{List, [], _∷_}
-use Prim.Native.Nat.{ℕ, suc, _-_, _/_, _<_, _≤_}
+use Prim.Native.Nat.{ℕ, suc, _-_, _/_, _<_}
 use native.Mathlib.Omega.{arith}
 use lib.ListN.{length, getD}
 use Rattle.logic.specs.declared.Answer.{Answer}
-use Rattle.logic.specs.Checks.{_then_, Passes, Answers}
+use Rattle.logic.specs.Checks.{Checks, _then_, Passes, Answers}
 use Rattle.logic.specs.CheckLaws.{Yes, passes-of-yes, passes-then, answers-refused, answers-after, answers-other, answers-passed}
 use Rattle.logic.specs.Heap.{Stack, Heap, Map}
 use Rattle.logic.specs.Reflect.{Is}
@@ -14,15 +14,16 @@ use Rattle.logic.specs.Truth.{truth}
 use Rattle.logic.specs.TruthHolds.{truth-holds}
 use Rattle.logic.specs.Formula.{Form}
 use Rattle.logic.specs.Table.{Sound, tree}
-use Rattle.logic.specs.Book.{nodes, root, bookChecks, stretch, formulaOf, varsOf, locsOf, pathOf, Reads, Accepted}
-use Rattle.logic.specs.BookLaws.{accepted-whole}
+use Rattle.logic.specs.Book.{nodes, root, bookChecks, varsOf, locsOf, Reads, Accepted, Bodies}
+use Rattle.logic.specs.OpenLaws.{vars-low, locs-low, known}
 use Rattle.logic.specs.Model.{modelChecks, stackIn, heapIn, Fits, FitsBook, Verdict, Judges}
 use Rattle.logic.specs.ModelLaws.{model-stack, model-heap, model-refuses}
-use Rattle.cells.specs.Cells.{most, cells, Unnamed}
+use Rattle.cells.specs.Cells.{cells, Unnamed}
 use Rattle.judge.specs.Setting.{Ready}
-use Rattle.model.specs.Packing.{packedFrom, Judged}
-use Rattle.model.specs.PackingLaws.{packed-stack, packed-heap}
-use Rattle.model.specs.SameTable.{same-tree, same-sound}
+use Rattle.packing.specs.Packing.{packedFrom}
+use Rattle.packing.specs.PackingLaws.{packed-stack, packed-heap}
+use Rattle.packing.specs.SameTable.{same-tree, same-sound}
+use Rattle.model.specs.Judged.{Judged}
 
 -- the setting of a packed model, and what the core says in it
 module _ (v n p : ℕ) (f t m : List ℕ) (small : (i : ℕ) → getD m i 0 < 256) (same : (i : ℕ) → getD t i 0 ≡ getD f i 0) (j : Judged v n f m)
@@ -30,10 +31,10 @@ module _ (v n p : ℕ) (f t m : List ℕ) (small : (i : ℕ) → getD m i 0 < 25
   pub ready : Ready t (v ∷ n ∷ p ∷ s ∷ u ∷ []) (length f / 3 - 1)
   ready =
       record {
-        inside = omega (arith, j .some, j .few);
-        sound = let e : nodes f ≡ suc (length f / 3 - 1) = omega (arith, j .some) in subst (Sound v t) e (same-sound f t same v (nodes f) (j .sound));
-        fewVars = j .fewVars;
-        fewLocs = j .fewLocs;
+        inside = omega (arith, j .table .some, j .table .few);
+        sound = let e : nodes f ≡ suc (length f / 3 - 1) = omega (arith, j .table .some) in subst (Sound v t) e (same-sound f t same v (nodes f) (j .table .sound));
+        fewVars = omega (arith, j .fewVars);
+        fewLocs = omega (arith, j .fewLocs);
         stack = subst (Stack v n) (sym (packed-stack m small v s es)) (model-stack v n m (j .model));
         unnamed = un;
       }
@@ -59,45 +60,25 @@ pub judges-book : (s m : List ℕ) (a : Answer) → Reads s a → ¬ (a .number 
 unfolding Reads Judges
 judges-book s m a q f = answers-refused (bookChecks s) (Verdict (FitsBook s m)) (modelChecks (varsOf s) (locsOf s) m) a q f
 
--- b and f are the bodies of an accepted book, and v, n and p its bounds
-module _ (s b f m : List ℕ) (ok : Accepted s) (eb : b ≡ stretch s 0) (ef : f ≡ formulaOf s) where
-  pub bounds-three : length b ≡ 3
-  bounds-three = ap length eb ∙ accepted-whole s ok .bounds .three
+-- f is the formula of an accepted book, and v, n and p are its bounds
+module _ (s f m : List ℕ) (v n p : ℕ) (q : Bodies s f v n p) where
+  same-checks : modelChecks v n m ≡ modelChecks (varsOf s) (locsOf s) m
+  same-checks = rw (q .vars, q .locs)
 
-  module _ (v n : ℕ) (ev : v ≡ getD b 0 0) (en : n ≡ getD b 1 0) where
-    vars-is : v ≡ varsOf s
-    vars-is = ev ∙ ap (λ (x : List ℕ). getD x 0 0) eb
+  pub judges-range : (a : Answer) → Answers (modelChecks v n m) Yes a → ¬ (a .number ≡ 0) → Judges s m a
+  unfolding Judges Accepted
+  judges-range a r w =
+      answers-after (bookChecks s) (modelChecks (varsOf s) (locsOf s) m) (Verdict (FitsBook s m)) a (q .accepted)
+      (subst (λ (c : Checks). Answers c (Verdict (FitsBook s m)) a) same-checks (answers-other (modelChecks v n m) (Verdict (FitsBook s m)) a r w))
 
-    locs-is : n ≡ locsOf s
-    locs-is = en ∙ ap (λ (x : List ℕ). getD x 1 0) eb
+  module _ (pm : Passes (modelChecks v n m)) where
+    pub judged : Judged v n f m
+    judged = record { table = known s f v n p q; fewVars = vars-low s f v n p q; fewLocs = locs-low s f v n p q; model = pm }
 
-    pub bounds-low : (v ≤ most) × (n ≤ most)
-    bounds-low = let w = accepted-whole s ok .bounds in (omega (arith, w .vars, vars-is), omega (arith, w .locs, locs-is))
-
-    pub judges-range : (a : Answer) → Answers (modelChecks v n m) Yes a → ¬ (a .number ≡ 0) → Judges s m a
+    pub judges-verdict : (a : Answer) → Verdict (Fits v n p (tree f (root f)) (stackIn v m) (heapIn v n m)) a → Judges s m a
     unfolding Judges Accepted
-    judges-range a q w =
-        answers-after (bookChecks s) (modelChecks (varsOf s) (locsOf s) m) (Verdict (FitsBook s m)) a ok
-        (subst₂ (λ (x y : ℕ). Answers (modelChecks x y m) (Verdict (FitsBook s m)) a) vars-is locs-is
-        (answers-other (modelChecks v n m) (Verdict (FitsBook s m)) a q w))
-
-    module _ (pm : Passes (modelChecks v n m)) where
-      pub judged : Judged v n f m
-      judged =
-          let w = accepted-whole s ok in
-          record {
-            some = rw ef (w .some);
-            few = rw ef (omega (arith, w .few, w .bytes));
-            sound = rw (vars-is, ef) (w .sound);
-            fewVars = bounds-low .0;
-            fewLocs = bounds-low .1;
-            model = pm;
-          }
-
-      pub judges-verdict : (p : ℕ) → p ≡ getD b 2 0 → (a : Answer) → Verdict (Fits v n p (tree f (root f)) (stackIn v m) (heapIn v n m)) a → Judges s m a
-      unfolding Judges Accepted
-      judges-verdict p ep a q =
-          answers-passed (bookChecks s then modelChecks (varsOf s) (locsOf s) m) (Verdict (FitsBook s m)) a
-          (passes-then (bookChecks s) (modelChecks (varsOf s) (locsOf s) m) ok (subst₂ (λ (x y : ℕ). Passes (modelChecks x y m)) vars-is locs-is pm))
-          (subst (λ (y : List ℕ). Verdict (Fits (varsOf s) (locsOf s) (pathOf s) (tree y (root y)) (stackIn (varsOf s) m) (heapIn (varsOf s) (locsOf s) m)) a) ef
-          (subst₃ (λ (x y z : ℕ). Verdict (Fits x y z (tree f (root f)) (stackIn x m) (heapIn x y m)) a) vars-is locs-is (ep ∙ ap (λ (x : List ℕ). getD x 2 0) eb) q))
+    judges-verdict a d =
+        let same : Fits v n p (tree f (root f)) (stackIn v m) (heapIn v n m) ≡ FitsBook s m = rw (q .vars, q .locs, q .path, q .formula) in
+        answers-passed (bookChecks s then modelChecks (varsOf s) (locsOf s) m) (Verdict (FitsBook s m)) a
+        (passes-then (bookChecks s) (modelChecks (varsOf s) (locsOf s) m) (q .accepted) (subst Passes same-checks pm))
+        (subst (λ (P : Type 0). Verdict P a) same d)

@@ -1,4 +1,2 @@
-pub mod Packing
-pub mod PackingLaws
-pub mod SameTable
+pub mod Judged
 pub mod Judging

@@ -52,11 +52,14 @@ assignedIn s q = assigned (varsOf s) (locsOf s) (arrays (bookFormula s)) q
 abbrev pub SatisfiesBook : List ℕ → List ℕ → Type 0
 SatisfiesBook s q = Satisfies (varsOf s) (assignedIn s q) (bookRows s)
 
--- "Order: 10 to 13; then nodes upwards, ..; 16; then .. 19, 21, 22 (assignment)"
-abbrev pub assignChecks : List ℕ → List ℕ → Checks
-assignChecks s q =
-    bookChecks s then
+-- "then .. 19, 21, 22 (assignment)": "formula not encodable", then the assignment's own
+abbrev pub assignRest : List ℕ → List ℕ → Checks
+assignRest s q =
     check (Encodable (bookFormula s)) not-encodable 0 (assignmentChecks (varsOf s) (locsOf s) (arrays (bookFormula s)) (sets (bookFormula s)) q)
+
+-- "Order: 10 to 13; then nodes upwards, ..; 16; then .."
+abbrev pub assignChecks : List ℕ → List ℕ → Checks
+assignChecks s q = bookChecks s then assignRest s q
 
 -- what the judge of assignments gives back for the book s and the assignment q: "0: fits"; "1: doesn't fit"
 unfoldable pub Assigns : List ℕ → List ℕ → Answer → Type 0

@@ -25,10 +25,13 @@ outBook v n p rs = headOf v n p (10 * length rs) ++ bytesOf rs
 unfoldable pub encodingOf : List ℕ → List ℕ
 encodingOf s = outBook (varsOf s) (locsOf s) (pathOf s) (bookRows s)
 
--- "Order: 10 to 13; then nodes upwards, ..; 16; then .. 19, 20 (encoder)"; "under the whole book for the encoder"
+-- "then .. 19, 20 (encoder)": "formula not encodable"; "output too short: .. under the whole book for the encoder"
+abbrev pub encodeRest : List ℕ → List ℕ → Checks
+encodeRest s o = check (Encodable (bookFormula s)) not-encodable 0 (check (length (encodingOf s) ≤ length o) output-length 0 done)
+
+-- "Order: 10 to 13; then nodes upwards, ..; 16; then .."
 abbrev pub encodeChecks : List ℕ → List ℕ → Checks
-encodeChecks s o =
-    bookChecks s then check (Encodable (bookFormula s)) not-encodable 0 (check (length (encodingOf s) ≤ length o) output-length 0 done)
+encodeChecks s o = bookChecks s then encodeRest s o
 
 -- what the encoder gives back for the book s and the output o, and what the output then is: "Output bytes change only with
 -- number 0, only at the front, and only as many as are written."

@@ -1,5 +1,14 @@
 // The table of rows that a formula is encoded as. There is no code here; what a reader must believe is in specs/.
 
+use logic::MOST;
+
+// The values of an array, by location, and as many arrays as a formula may have.
+pub const ARRAYS: usize = 32;
+
+pub type Values = [u8; MOST];
+
+pub type Arrays = [Values; ARRAYS];
+
 // A row as it is written: its operator, k and four operands.
 pub struct Fields {
     pub op: u8,

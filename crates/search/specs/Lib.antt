@@ -1,3 +1,1 @@
-pub mod Hunt
-pub mod HuntLaws
-pub mod BookLaws
+pub mod Searching

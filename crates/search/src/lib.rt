@@ -1,113 +1,24 @@
-// The search: each candidate is tried once, in the candidates' order, up to the first that fits or the end of the budget.
-use book::answer_of;
-use candidates::Candidate;
+// The search of a book for the first model that fits, within a budget. Any bytes at all are searched.
+use book::open;
 use contents::part;
-use contents::wide;
-use judge::node_holds;
+use hunt::Ended;
+use hunt::hunt;
+use leaves::answer_of;
 use logic::Answer;
-use model::table_of;
-ghost use mathlib.Core.Path.{_≡_};
-ghost use mathlib.Core.Logic.{_⊎_};
-ghost use Prim.Native.Nat.{suc, _≤_, _<_};
-ghost use lib.Dec.{leb};
-ghost use Rattle.logic.specs.Table.{Sound, tree};
-ghost use Rattle.logic.specs.Reflect.{Is};
-ghost use Rattle.logic.specs.Search.{CandidateFits, searched, Searches};
-ghost use Rattle.cells.specs.Cells.{most, cells, Unnamed};
-ghost use Rattle.judge.specs.Setting.{room};
-ghost use Rattle.candidates.specs.Counter.{WithinBounds, number};
-ghost use Rattle.search.specs.Hunt.{Hunted, Usable, HuntedIn};
+use packing::table_of;
+ghost use Prim.Native.Nat.{_≤_};
+ghost use Rattle.logic.specs.Table.{tree};
+ghost use Rattle.logic.specs.Book.{most, root, Known};
+ghost use Rattle.logic.specs.Search.{CandidateFits, Searches};
+ghost use Rattle.hunt.specs.Hunt.{Hunted};
 
-// The locations that are not named: they depend on the stack alone, which changes only where the heap is empty again.
-fn unnamed_for(c: Candidate, u: u64) -> u64
-    requires { ⌜ WithinBounds c × (¬ (c .heap ≡ 0) → Unnamed (c .vars) (c .locs) (cells (c .stack)) u) ⌝ }
-    ensures { λ r. ⌜ Unnamed (c .vars) (c .locs) (cells (c .stack)) r ⌝ }
-{
-    if c.heap == 0 {
-        return cells::unnamed(c.vars, c.locs, c.stack);
-    }
-    u
-}
-
-// Whether the candidate fits node k of the table f; u is the set of the locations that are not named.
-fn fits(f: &[u8; 192], k: usize, p: u64, c: Candidate, u: u64) -> bool
-    requires { ⌜ (k < room) × Sound (c .vars) (now f) (suc k) × WithinBounds c × Unnamed (c .vars) (c .locs) (cells (c .stack)) u ⌝ }
-    ensures { λ r. ⌜ Is r (CandidateFits (c .vars) (c .locs) p (tree (now (f .entry)) k) (number c)) ⌝ }
-{
-    let b = [c.vars, c.locs, p, c.stack, u];
-    node_holds(f, k, &b, c.heap)
-}
-
-// What a hunt gives back: its answer, and the candidate that it stopped at.
-struct Ended {
-    answer: Answer,
-    at: Candidate,
-}
-
-fn stop(number: u64, tried: u64, at: Candidate) -> Ended
-    ensures { λ r. ⌜ (r .answer ≡ searched number tried) × (r .at ≡ at) ⌝ }
-{
-    Ended {
-        answer: Answer {
-            number,
-            place: 0,
-            tried,
-        },
-        at,
-    }
-}
-
-fn least(a: u64, b: u64) -> u64
-    ensures { λ r. ⌜ (r ≤ a) × (r ≤ b) × ((r ≡ a) ⊎ (r ≡ b)) ⌝ }
-{
-    if a < b { a } else { b }
-}
-
-// Whether the budget is enough for every candidate.
-fn enough(t: u64, budget: u64) -> bool
-    ensures { λ r. ⌜ r ≡ leb t budget ⌝ }
-{
-    t <= budget
-}
-
-// The hunt for the lowest candidate that fits node k of the table f.
-fn hunt(f: &[u8; 192], k: usize, v: u64, n: u64, p: u64, budget: u64) -> Ended
-    requires { ⌜ (k < room) × Sound v (now f) (suc k) × (v ≤ most) × (n ≤ most) ⌝ }
-    ensures { λ r. ⌜ Hunted v n (CandidateFits v n p (tree (now (f .entry)) k)) budget (r .answer) (r .at) ⌝ }
-{
-    let t = candidates::total(v, n);
-    let end = least(t, budget);
-    let mut c = Candidate::first(v, n);
-    let mut u = unnamed_for(c, 0);
-    let mut i: u64 = 0;
-    while i < end {
-        if fits(f, k, p, c, u) {
-            return stop(logic::YES, i + 1, c);
-        }
-        c = c.next();
-        u = unnamed_for(c, u);
-        i += 1;
-    }
-    if enough(t, budget) {
-        return stop(logic::NO, t, c);
-    }
-    stop(logic::SPENT, budget, c)
-}
-
-// The hunt in a book, by its bodies.
-fn hunt_in(b: &[u8], f: &[u8], budget: u64) -> Ended
-    requires { ⌜ Usable (now b) (now f) ⌝ }
-    ensures { λ r. ⌜ HuntedIn (now (b .entry)) (now (f .entry)) budget (r .answer) (r .at) ⌝ }
+// The hunt for the lowest candidate that fits the formula f.
+fn hunt_in(f: &[u8], v: u64, n: u64, p: u64, budget: u64) -> Ended
+    requires { ⌜ Known v (now f) × (v ≤ most) × (n ≤ most) ⌝ }
+    ensures { λ r. ⌜ Hunted v n (CandidateFits v n p (tree (now (f .entry)) (root (now (f .entry))))) budget (r .answer) (r .at) ⌝ }
 {
     let t = table_of(f);
-    hunt(
-        &t,
-        f.len() / 3 - 1,
-        wide(b[0]) as u64,
-        wide(b[1]) as u64,
-        wide(b[2]) as u64,
-        budget,
-    )
+    hunt(&t, f.len() / 3 - 1, v, n, p, budget)
 }
 
 // Searches the book for a model, with at most that many candidates tried. A model that is found goes to the front of the
@@ -115,17 +26,19 @@ fn hunt_in(b: &[u8], f: &[u8], budget: u64) -> Ended
 pub fn search(book: &[u8], budget: u64, out: &mut [u8]) -> Answer
     ensures { λ r. ⌜ Searches (now (book .entry)) budget (now (out .entry)) r (now (out .exit)) ⌝ }
 {
-    let first = book::read(book);
+    let opened = open(book);
+    let first = opened.answer;
     if first.number != logic::YES {
         return first;
     }
-    let b = part(book, 0);
     let f = part(book, 1);
-    let space = out.len();
-    if space < wide(b[0]) + wide(b[1]) {
+    let v = opened.v;
+    let n = opened.n;
+    let space = out.len() as u64;
+    if space < v + n {
         return answer_of(logic::OUTPUT_LENGTH, 0);
     }
-    let r = hunt_in(b, f, budget);
+    let r = hunt_in(f, v, n, opened.p, budget);
     let answer = r.answer;
     let c = r.at;
     if answer.number == logic::YES {

@@ -5,6 +5,6 @@ fn main() {
     let mut input = [0u8; 207];
     let count = io::read_full(0, &mut input);
     let mut out = [0u8; 256];
-    let size = text::put_text(&input[..count], &mut out);
+    let size = print::put_printed(&input[..count], &mut out);
     io::write_all(1, &out[..size]);
 }

@@ -1,5 +1,6 @@
 //! docs/PROMISES.md keeps step with the tree: it names every must-fail edit, and every function that
-//! crates share has a statement and, where it has a condition, is listed there.
+//! crates share has a statement, or is of a crate that is exempt there, and is listed where it has a
+//! condition.
 
 use std::fs;
 use std::path::{Path, PathBuf};
@@ -77,13 +78,17 @@ fn what_crates_share_is_stated() {
         .split_once("### Inner calls with a condition")
         .expect("the section");
     let listed = listed.split("\n## ").next().expect("its text");
+    let exempt = listed
+        .lines()
+        .find(|l| l.contains("have no `ensures`"))
+        .expect("the crates whose functions say nothing");
     for (name, path) in files("src", "rt") {
         if path.with_file_name("main.rt").exists() {
             continue;
         }
         for (function, head) in public_functions(&fs::read_to_string(&path).expect("source")) {
             assert!(
-                head.contains("ensures"),
+                head.contains("ensures") || exempt.contains(&format!("`{name}`")),
                 "{name}::{function} says nothing of its result"
             );
             if head.contains("requires") {

@@ -8,7 +8,7 @@ use lib.ListN.{length}
 use Rattle.logic.specs.Table.{opOf}
 use Rattle.logic.specs.Tests.{pick}
 use Rattle.rows.specs.Weight.{sum}
-use Rattle.encoder.specs.EncodeLaws.{sum-none, sum-more}
+use Rattle.encodable.specs.CountingLaws.{sum-start, sum-more}
 use Rattle.assign.proofs.above.Statement.{statement}
 use Rattle.assign.proofs.above.Tie as tie
 
@@ -19,7 +19,7 @@ abbrev μ-loop : tie.MeasureT-loop
 μ-loop f o end r₀ k₀ r k = end - k
 
 loop-holds : tie.Need-loop-holds Inv-loop μ-loop
-loop-holds c = let a = c .before .args in (search needs, refl, search needs, sym (sum-none (λ j. pick (leb (opOf (a .f .now) j) (a .o)) 0 1)))
+loop-holds c = let a = c .before .args in (search needs, refl, search needs, sym (sum-start (λ j. pick (leb (opOf (a .f .now) j) (a .o)) 0 1)))
 
 mul-one-above : tie.Need-mul-one-above Inv-loop μ-loop
 mul-one-above c = search needs

@@ -1,89 +1,58 @@
 -- `assign::assign` meets its contract. Assumes nothing.
 use borrow.Author.Needs.{needs}
 use borrow.Author.Tests.{not-true, not-false}
-use mathlib.Core.Path.{refl}
+use mathlib.Core.Logic.{inl, inr}
 use Prim.Native.Nat.{_+_, _≤_}
 use native.Mathlib.Omega.{arith}
-use Rattle.logic.specs.BookLaws.{reads-yes}
-use Rattle.assign.specs.Judging.{bytes-few, assigns-book, three, some-node, known, arrays-are, sets-are, few-arrays, few-sets, assigns-19, few-vars, few-locs, assigns-range, judging, assigns-verdict, verdict-yes, verdict-no}
+use Rattle.logic.specs.OpenLaws.{read-given, opened, vars-low, locs-low, known}
+use Rattle.logic.specs.Reflect.{fails}
+use Rattle.rows.specs.Bounds.{mostArrays}
+use Rattle.encodable.specs.CountingLaws.{arrays-most, sets-most}
+use Rattle.assign.specs.JudgingLaws.{bytes-few, arrays-are, sets-are, assigns-book, assigns-19, assigns-range, judging, assigns-verdict}
 use Rattle.assign.proofs.assign.Statement.{statement}
 use Rattle.assign.proofs.assign.Tie as tie
 
-read-requires : tie.Need-read-requires
-read-requires c κs = search needs
+open-requires : tie.Need-open-requires
+open-requires c κs = search needs
 
 returns : tie.Need-returns
-returns c = assigns-book _ _ _ (c .before .before .read .ensures) (c .if1 .taken)
+returns c =
+    let a = c .before .before .before .before .before .before .args in
+    let o = c .before .before .before .«open» in
+    assigns-book (a .book .now) (a .assignment .now) (o .result .answer) (o .ensures .answer) (c .if1 .taken)
 
-body-requires : tie.Need-body-requires
-body-requires c κs = search needs
-
-body-requires-2 : tie.Need-body-requires-2
-body-requires-2 c κs = search needs
+part-requires : tie.Need-part-requires
+part-requires c κs =
+    let o = c .before .before .before .«open» in
+    read-given (c .before .before .before .before .before .before .args .book .now) (o .result .answer) 1 (o .ensures .answer) (c .if1 .left) (omega arith)
 
 sub-encodable : tie.Need-sub-encodable
 sub-encodable c =
-    let s = c .before .before .before .before .before .before .before .args .book .now in
-    let q = c .before .before .before .before .before .before .before .args .assignment .now in
-    let ok = reads-yes s _ (c .before .before .before .before .read .ensures) (c .before .before .if1 .left) in
-    let b = c .before .body .result .now in
-    let f = c .body2 .result .now in
-    let qb = c .before .body .ensures in
-    let qf = c .body2 .ensures in
-    omega (arith, some-node s q b f ok qb qf)
+    let a = c .before .before .before .before .before .before .before .args in
+    let o = c .before .before .before .before .«open» in
+    let f = c .part .result .now in
+    let w = opened (a .book .now) f (o .result .answer) (o .result .v) (o .result .n) (o .result .p) (o .ensures) (c .before .if1 .left) (c .part .ensures) in
+    omega (arith, known (a .book .now) f (o .result .v) (o .result .n) (o .result .p) w .some)
 
 encodable-requires : tie.Need-encodable-requires
 encodable-requires c κs =
-    let s = c .before .before .before .before .before .before .before .args .book .now in
-    let q = c .before .before .before .before .before .before .before .args .assignment .now in
-    let ok = reads-yes s _ (c .before .before .before .before .read .ensures) (c .before .before .if1 .left) in
-    let b = c .before .body .result .now in
-    let f = c .body2 .result .now in
-    let qb = c .before .body .ensures in
-    let qf = c .body2 .ensures in
-    (omega (arith, some-node s q b f ok qb qf), known s q b f ok qb qf)
+    let a = c .before .before .before .before .before .before .before .args in
+    let o = c .before .before .before .before .«open» in
+    let f = c .part .result .now in
+    let w = opened (a .book .now) f (o .result .answer) (o .result .v) (o .result .n) (o .result .p) (o .ensures) (c .before .if1 .left) (c .part .ensures) in
+    let k = known (a .book .now) f (o .result .v) (o .result .n) (o .result .p) w in
+    (omega (arith, k .some), (o .result .v, k))
 
 answer-of-requires : tie.Need-answer-of-requires
 answer-of-requires c κs = search needs
 
 returns-2 : tie.Need-returns-2
 returns-2 c =
-    let s = c .before .before .before .before .before .before .before .before .before .before .args .book .now in
-    let q = c .before .before .before .before .before .before .before .before .before .before .args .assignment .now in
-    let ok = reads-yes s _ (c .before .before .before .before .before .before .before .read .ensures) (c .before .before .before .before .before .if1 .left) in
-    let b = c .before .before .before .before .body .result .now in
-    let f = c .before .before .before .body2 .result .now in
-    let qb = c .before .before .before .before .body .ensures in
-    let qf = c .before .before .before .body2 .ensures in
-    assigns-19 s q b f ok qb qf _ _ (c .before .before .encodable .ensures) (not-true _ (c .before .if2 .taken)) (c .answer-of .ensures)
-
-shared-slice-read-wide : tie.Need-shared-slice-read-wide
-shared-slice-read-wide c =
-    let s = c .before .before .before .before .before .before .before .before .before .before .args .book .now in
-    let q = c .before .before .before .before .before .before .before .before .before .before .args .assignment .now in
-    let ok = reads-yes s _ (c .before .before .before .before .before .before .before .read .ensures) (c .before .before .before .before .before .if1 .left) in
-    let b = c .before .before .before .before .body .result .now in
-    let f = c .before .before .before .body2 .result .now in
-    let qb = c .before .before .before .before .body .ensures in
-    let qf = c .before .before .before .body2 .ensures in
-    omega (arith, three s q b f ok qb qf)
-
-wide-requires : tie.Need-wide-requires
-wide-requires c κs = search needs
-
-shared-slice-read-wide-2 : tie.Need-shared-slice-read-wide-2
-shared-slice-read-wide-2 c =
-    let s = c .before .before .before .before .before .before .before .before .before .before .before .before .args .book .now in
-    let q = c .before .before .before .before .before .before .before .before .before .before .before .before .args .assignment .now in
-    let ok = reads-yes s _ (c .before .before .before .before .before .before .before .before .before .read .ensures) (c .before .before .before .before .before .before .before .if1 .left) in
-    let b = c .before .before .before .before .before .before .body .result .now in
-    let f = c .before .before .before .before .before .body2 .result .now in
-    let qb = c .before .before .before .before .before .before .body .ensures in
-    let qf = c .before .before .before .before .before .body2 .ensures in
-    omega (arith, three s q b f ok qb qf)
-
-wide-requires-2 : tie.Need-wide-requires-2
-wide-requires-2 c κs = search needs
+    let a = c .before .before .before .before .before .before .before .before .before .before .args in
+    let o = c .before .before .before .before .before .before .before .«open» in
+    let f = c .before .before .before .part .result .now in
+    let w = opened (a .book .now) f (o .result .answer) (o .result .v) (o .result .n) (o .result .p) (o .ensures) (c .before .before .before .before .if1 .left) (c .before .before .before .part .ensures) in
+    assigns-19 (a .book .now) f (a .assignment .now) (o .result .v) (o .result .n) (o .result .p) w _ _ (c .before .before .encodable .ensures) (not-true _ (c .before .if2 .taken)) (c .answer-of .ensures)
 
 above-requires : tie.Need-above-requires
 above-requires c κs = search needs
@@ -102,51 +71,37 @@ add-sets c = search needs
 
 in-range-requires : tie.Need-in-range-requires
 in-range-requires c κs =
-    let s = c .before .before .before .before .before .before .before .before .before .before .before .before .before .before .before .args .book .now in
-    let q = c .before .before .before .before .before .before .before .before .before .before .before .before .before .before .before .args .assignment .now in
-    let ok = reads-yes s _ (c .before .before .before .before .before .before .before .before .before .before .before .before .read .ensures) (c .before .before .before .before .before .before .before .before .before .before .if1 .left) in
-    let b = c .before .before .before .before .before .before .before .before .before .body .result .now in
-    let f = c .before .before .before .before .before .before .before .before .body2 .result .now in
-    let qb = c .before .before .before .before .before .before .before .before .before .body .ensures in
-    let qf = c .before .before .before .before .before .before .before .before .body2 .ensures in
-    let ex = arrays-are s q b f ok qb qf (c .before .above .result) (c .before .above .ensures .0) in
-    let ey = sets-are s q b f ok qb qf (c .above2 .result) (c .above2 .ensures .0) in
-    let n = few-locs s q b f ok qb qf (c .before .before .before .before .wide .result) (c .before .before .wide2 .result) _ _ (c .before .before .before .before .wide .ensures .0) (c .before .before .wide2 .ensures .0) (arrays-are s q b f ok qb qf (c .before .above .result) (c .before .above .ensures .0)) (sets-are s q b f ok qb qf (c .above2 .result) (c .above2 .ensures .0)) in
-    let m : 1 + c .before .above .result ≤ 32 = omega (arith, ex, few-arrays s q b f ok qb qf) in
-    (few-vars s q b f ok qb qf (c .before .before .before .before .wide .result) (c .before .before .wide2 .result) _ _ (c .before .before .before .before .wide .ensures .0) (c .before .before .wide2 .ensures .0) (arrays-are s q b f ok qb qf (c .before .above .result) (c .before .above .ensures .0)) (sets-are s q b f ok qb qf (c .above2 .result) (c .above2 .ensures .0)), n, m, omega (arith, ey, few-sets s q b f ok qb qf), bytes-few (1 + c .before .above .result) (c .before .before .wide2 .result) m n)
+    let a = c .before .before .before .before .before .before .before .before .before .before .before .args in
+    let o = c .before .before .before .before .before .before .before .before .«open» in
+    let f = c .before .before .before .before .part .result .now in
+    let w = opened (a .book .now) f (o .result .answer) (o .result .v) (o .result .n) (o .result .p) (o .ensures) (c .before .before .before .before .before .if1 .left) (c .before .before .before .before .part .ensures) in
+    let k = known (a .book .now) f (o .result .v) (o .result .n) (o .result .p) w in
+    let ex = arrays-are (o .result .v) f k (c .before .above .result) (c .before .above .ensures .0) in
+    let ey = sets-are (o .result .v) f k (c .above2 .result) (c .above2 .ensures .0) in
+    let m : 1 + c .before .above .result ≤ mostArrays = omega (arith, ex, arrays-most (o .result .v) f k) in
+    (vars-low (a .book .now) f (o .result .v) (o .result .n) (o .result .p) w, locs-low (a .book .now) f (o .result .v) (o .result .n) (o .result .p) w, m, omega (arith, ey, sets-most (o .result .v) f k), bytes-few (1 + c .before .above .result) (o .result .n) m (locs-low (a .book .now) f (o .result .v) (o .result .n) (o .result .p) w))
 
 returns-3 : tie.Need-returns-3
 returns-3 c =
-    let s = c .before .before .before .before .before .before .before .before .before .before .before .before .before .before .before .before .before .before .args .book .now in
-    let q = c .before .before .before .before .before .before .before .before .before .before .before .before .before .before .before .before .before .before .args .assignment .now in
-    let ok = reads-yes s _ (c .before .before .before .before .before .before .before .before .before .before .before .before .before .before .before .read .ensures) (c .before .before .before .before .before .before .before .before .before .before .before .before .before .if1 .left) in
-    let b = c .before .before .before .before .before .before .before .before .before .before .before .before .body .result .now in
-    let f = c .before .before .before .before .before .before .before .before .before .before .before .body2 .result .now in
-    let qb = c .before .before .before .before .before .before .before .before .before .before .before .before .body .ensures in
-    let qf = c .before .before .before .before .before .before .before .before .before .before .before .body2 .ensures in
-    assigns-range s q b f ok qb qf (c .before .before .before .before .before .before .before .wide .result) (c .before .before .before .before .before .wide2 .result) _ _ (c .before .before .before .before .before .before .before .wide .ensures .0) (c .before .before .before .before .before .wide2 .ensures .0) (arrays-are s q b f ok qb qf (c .before .before .before .before .above .result) (c .before .before .before .before .above .ensures .0)) (sets-are s q b f ok qb qf (c .before .before .before .above2 .result) (c .before .before .before .above2 .ensures .0)) _ (c .before .before .before .before .before .before .before .before .before .before .encodable .ensures) (not-false _ (c .before .before .before .before .before .before .before .before .before .if2 .left)) _ (c .before .before .in-range .ensures) (c .if3 .taken)
-
-shared-slice-read-satisfies : tie.Need-shared-slice-read-satisfies
-shared-slice-read-satisfies c =
-    let s = c .before .before .before .before .before .before .before .before .before .before .before .before .before .before .before .before .before .before .before .args .book .now in
-    let q = c .before .before .before .before .before .before .before .before .before .before .before .before .before .before .before .before .before .before .before .args .assignment .now in
-    let ok = reads-yes s _ (c .before .before .before .before .before .before .before .before .before .before .before .before .before .before .before .before .read .ensures) (c .before .before .before .before .before .before .before .before .before .before .before .before .before .before .if1 .left) in
-    let b = c .before .before .before .before .before .before .before .before .before .before .before .before .before .body .result .now in
-    let f = c .before .before .before .before .before .before .before .before .before .before .before .before .body2 .result .now in
-    let qb = c .before .before .before .before .before .before .before .before .before .before .before .before .before .body .ensures in
-    let qf = c .before .before .before .before .before .before .before .before .before .before .before .before .body2 .ensures in
-    omega (arith, three s q b f ok qb qf)
+    let a = c .before .before .before .before .before .before .before .before .before .before .before .before .before .before .args in
+    let o = c .before .before .before .before .before .before .before .before .before .before .before .«open» in
+    let f = c .before .before .before .before .before .before .before .part .result .now in
+    let w = opened (a .book .now) f (o .result .answer) (o .result .v) (o .result .n) (o .result .p) (o .ensures) (c .before .before .before .before .before .before .before .before .if1 .left) (c .before .before .before .before .before .before .before .part .ensures) in
+    let k = known (a .book .now) f (o .result .v) (o .result .n) (o .result .p) w in
+    let ex = arrays-are (o .result .v) f k (c .before .before .before .before .above .result) (c .before .before .before .before .above .ensures .0) in
+    let ey = sets-are (o .result .v) f k (c .before .before .before .above2 .result) (c .before .before .before .above2 .ensures .0) in
+    assigns-range (a .book .now) f (a .assignment .now) (o .result .v) (o .result .n) (o .result .p) w _ (c .before .before .before .before .before .before .encodable .ensures) (not-false _ (c .before .before .before .before .before .if2 .left)) _ _ ex ey (c .before .before .in-range .result) (c .before .before .in-range .ensures) (c .if3 .taken)
 
 satisfies-requires : tie.Need-satisfies-requires
 satisfies-requires c κs =
-    let s = c .before .before .before .before .before .before .before .before .before .before .before .before .before .before .before .before .before .before .before .args .book .now in
-    let q = c .before .before .before .before .before .before .before .before .before .before .before .before .before .before .before .before .before .before .before .args .assignment .now in
-    let ok = reads-yes s _ (c .before .before .before .before .before .before .before .before .before .before .before .before .before .before .before .before .read .ensures) (c .before .before .before .before .before .before .before .before .before .before .before .before .before .before .if1 .left) in
-    let b = c .before .before .before .before .before .before .before .before .before .before .before .before .before .body .result .now in
-    let f = c .before .before .before .before .before .before .before .before .before .before .before .before .body2 .result .now in
-    let qb = c .before .before .before .before .before .before .before .before .before .before .before .before .before .body .ensures in
-    let qf = c .before .before .before .before .before .before .before .before .before .before .before .before .body2 .ensures in
-    judging s q b f ok qb qf (c .before .before .before .before .before .before .before .before .wide .result) (c .before .before .before .before .before .before .wide2 .result) _ _ (c .before .before .before .before .before .before .before .before .wide .ensures .0) (c .before .before .before .before .before .before .wide2 .ensures .0) (arrays-are s q b f ok qb qf (c .before .before .before .before .before .above .result) (c .before .before .before .before .before .above .ensures .0)) (sets-are s q b f ok qb qf (c .before .before .before .before .above2 .result) (c .before .before .before .before .above2 .ensures .0)) _ (c .before .before .before .before .before .before .before .before .before .before .before .encodable .ensures) (not-false _ (c .before .before .before .before .before .before .before .before .before .before .if2 .left)) _ (c .before .before .before .in-range .ensures) (c .before .if3 .left)
+    let a = c .before .before .before .before .before .before .before .before .before .before .before .before .before .before .args in
+    let o = c .before .before .before .before .before .before .before .before .before .before .before .«open» in
+    let f = c .before .before .before .before .before .before .before .part .result .now in
+    let w = opened (a .book .now) f (o .result .answer) (o .result .v) (o .result .n) (o .result .p) (o .ensures) (c .before .before .before .before .before .before .before .before .if1 .left) (c .before .before .before .before .before .before .before .part .ensures) in
+    let k = known (a .book .now) f (o .result .v) (o .result .n) (o .result .p) w in
+    let ex = arrays-are (o .result .v) f k (c .before .before .before .before .above .result) (c .before .before .before .before .above .ensures .0) in
+    let ey = sets-are (o .result .v) f k (c .before .before .before .above2 .result) (c .before .before .before .above2 .ensures .0) in
+    judging (a .book .now) f (a .assignment .now) (o .result .v) (o .result .n) (o .result .p) w _ (c .before .before .before .before .before .before .encodable .ensures) (not-false _ (c .before .before .before .before .before .if2 .left)) _ _ ex ey (c .before .before .in-range .result) (c .before .before .in-range .ensures) (c .if3 .left)
 
 answer-of-requires-2 : tie.Need-answer-of-requires-2
 answer-of-requires-2 c κs = search needs
@@ -156,42 +111,39 @@ answer-of-requires-3 c κs = search needs
 
 returns-4 : tie.Need-returns-4
 returns-4 c =
-    let s = c .before .before .before .before .before .before .before .before .before .before .before .before .before .before .before .before .before .before .before .before .before .before .args .book .now in
-    let q = c .before .before .before .before .before .before .before .before .before .before .before .before .before .before .before .before .before .before .before .before .before .before .args .assignment .now in
-    let ok = reads-yes s _ (c .before .before .before .before .before .before .before .before .before .before .before .before .before .before .before .before .before .before .before .read .ensures) (c .before .before .before .before .before .before .before .before .before .before .before .before .before .before .before .before .before .if1 .left) in
-    let b = c .before .before .before .before .before .before .before .before .before .before .before .before .before .before .before .before .body .result .now in
-    let f = c .before .before .before .before .before .before .before .before .before .before .before .before .before .before .before .body2 .result .now in
-    let qb = c .before .before .before .before .before .before .before .before .before .before .before .before .before .before .before .before .body .ensures in
-    let qf = c .before .before .before .before .before .before .before .before .before .before .before .before .before .before .before .body2 .ensures in
-    assigns-verdict s q b f ok qb qf (c .before .before .before .before .before .before .before .before .before .before .before .wide .result) (c .before .before .before .before .before .before .before .before .before .wide2 .result) _ _ (c .before .before .before .before .before .before .before .before .before .before .before .wide .ensures .0) (c .before .before .before .before .before .before .before .before .before .wide2 .ensures .0) (arrays-are s q b f ok qb qf (c .before .before .before .before .before .before .before .before .above .result) (c .before .before .before .before .before .before .before .before .above .ensures .0)) (sets-are s q b f ok qb qf (c .before .before .before .before .before .before .before .above2 .result) (c .before .before .before .before .before .before .before .above2 .ensures .0)) _ (c .before .before .before .before .before .before .before .before .before .before .before .before .before .before .encodable .ensures) (not-false _ (c .before .before .before .before .before .before .before .before .before .before .before .before .before .if2 .left)) _ (c .before .before .before .before .before .before .in-range .ensures) (c .before .before .before .before .if3 .left) _ _ refl (verdict-yes _ _ _ (c .before .before .satisfies .ensures) (c .before .if4 .taken) (c .answer-of2 .ensures))
+    let a = c .before .before .before .before .before .before .before .before .before .before .before .before .before .before .before .before .before .args in
+    let o = c .before .before .before .before .before .before .before .before .before .before .before .before .before .before .«open» in
+    let f = c .before .before .before .before .before .before .before .before .before .before .part .result .now in
+    let w = opened (a .book .now) f (o .result .answer) (o .result .v) (o .result .n) (o .result .p) (o .ensures) (c .before .before .before .before .before .before .before .before .before .before .before .if1 .left) (c .before .before .before .before .before .before .before .before .before .before .part .ensures) in
+    let k = known (a .book .now) f (o .result .v) (o .result .n) (o .result .p) w in
+    let ex = arrays-are (o .result .v) f k (c .before .before .before .before .before .before .before .above .result) (c .before .before .before .before .before .before .before .above .ensures .0) in
+    let ey = sets-are (o .result .v) f k (c .before .before .before .before .before .before .above2 .result) (c .before .before .before .before .before .before .above2 .ensures .0) in
+    assigns-verdict (a .book .now) f (a .assignment .now) (o .result .v) (o .result .n) (o .result .p) w _ (c .before .before .before .before .before .before .before .before .before .encodable .ensures) (not-false _ (c .before .before .before .before .before .before .before .before .if2 .left)) _ _ ex ey (c .before .before .before .before .before .in-range .result) (c .before .before .before .before .before .in-range .ensures) (c .before .before .before .if3 .left) (c .answer-of2 .result)
+    (inl (c .before .before .satisfies .ensures .to (c .before .if4 .taken), c .answer-of2 .ensures))
 
 returns-5 : tie.Need-returns-5
 returns-5 c =
-    let s = c .before .before .before .before .before .before .before .before .before .before .before .before .before .before .before .before .before .before .before .before .before .before .args .book .now in
-    let q = c .before .before .before .before .before .before .before .before .before .before .before .before .before .before .before .before .before .before .before .before .before .before .args .assignment .now in
-    let ok = reads-yes s _ (c .before .before .before .before .before .before .before .before .before .before .before .before .before .before .before .before .before .before .before .read .ensures) (c .before .before .before .before .before .before .before .before .before .before .before .before .before .before .before .before .before .if1 .left) in
-    let b = c .before .before .before .before .before .before .before .before .before .before .before .before .before .before .before .before .body .result .now in
-    let f = c .before .before .before .before .before .before .before .before .before .before .before .before .before .before .before .body2 .result .now in
-    let qb = c .before .before .before .before .before .before .before .before .before .before .before .before .before .before .before .before .body .ensures in
-    let qf = c .before .before .before .before .before .before .before .before .before .before .before .before .before .before .before .body2 .ensures in
-    assigns-verdict s q b f ok qb qf (c .before .before .before .before .before .before .before .before .before .before .before .wide .result) (c .before .before .before .before .before .before .before .before .before .wide2 .result) _ _ (c .before .before .before .before .before .before .before .before .before .before .before .wide .ensures .0) (c .before .before .before .before .before .before .before .before .before .wide2 .ensures .0) (arrays-are s q b f ok qb qf (c .before .before .before .before .before .before .before .before .above .result) (c .before .before .before .before .before .before .before .before .above .ensures .0)) (sets-are s q b f ok qb qf (c .before .before .before .before .before .before .before .above2 .result) (c .before .before .before .before .before .before .before .above2 .ensures .0)) _ (c .before .before .before .before .before .before .before .before .before .before .before .before .before .before .encodable .ensures) (not-false _ (c .before .before .before .before .before .before .before .before .before .before .before .before .before .if2 .left)) _ (c .before .before .before .before .before .before .in-range .ensures) (c .before .before .before .before .if3 .left) _ _ refl (verdict-no _ _ _ (c .before .before .satisfies .ensures) (c .before .if4 .left) (c .answer-of3 .ensures))
+    let a = c .before .before .before .before .before .before .before .before .before .before .before .before .before .before .before .before .before .args in
+    let o = c .before .before .before .before .before .before .before .before .before .before .before .before .before .before .«open» in
+    let f = c .before .before .before .before .before .before .before .before .before .before .part .result .now in
+    let w = opened (a .book .now) f (o .result .answer) (o .result .v) (o .result .n) (o .result .p) (o .ensures) (c .before .before .before .before .before .before .before .before .before .before .before .if1 .left) (c .before .before .before .before .before .before .before .before .before .before .part .ensures) in
+    let k = known (a .book .now) f (o .result .v) (o .result .n) (o .result .p) w in
+    let ex = arrays-are (o .result .v) f k (c .before .before .before .before .before .before .before .above .result) (c .before .before .before .before .before .before .before .above .ensures .0) in
+    let ey = sets-are (o .result .v) f k (c .before .before .before .before .before .before .above2 .result) (c .before .before .before .before .before .before .above2 .ensures .0) in
+    assigns-verdict (a .book .now) f (a .assignment .now) (o .result .v) (o .result .n) (o .result .p) w _ (c .before .before .before .before .before .before .before .before .before .encodable .ensures) (not-false _ (c .before .before .before .before .before .before .before .before .if2 .left)) _ _ ex ey (c .before .before .before .before .before .in-range .result) (c .before .before .before .before .before .in-range .ensures) (c .before .before .before .if3 .left) (c .answer-of3 .result)
+    (inr (fails _ (c .before .before .satisfies .ensures) (c .before .if4 .left), c .answer-of3 .ensures))
 
 pub assign-spec : {M : Type 1} → statement M
 assign-spec =
     tie.close
     (tie.spec
-    read-requires
+    open-requires
     returns
-    body-requires
-    body-requires-2
+    part-requires
     sub-encodable
     encodable-requires
     answer-of-requires
     returns-2
-    shared-slice-read-wide
-    wide-requires
-    shared-slice-read-wide-2
-    wide-requires-2
     above-requires
     add-arrays
     above-requires-2
@@ -199,7 +151,6 @@ assign-spec =
     add-sets
     in-range-requires
     returns-3
-    shared-slice-read-satisfies
     satisfies-requires
     answer-of-requires-2
     answer-of-requires-3

@@ -11,22 +11,31 @@ returns : tie.Need-returns
 unfolding Answers
 returns c = inl (λ h. omega (arith, h .three), refl)
 
-shared-slice-read-if2 : tie.Need-shared-slice-read-if2
-shared-slice-read-if2 c = search needs
+shared-slice-read-wide : tie.Need-shared-slice-read-wide
+shared-slice-read-wide c = search needs
+
+wide-requires : tie.Need-wide-requires
+wide-requires c κs = search needs
 
 returns-2 : tie.Need-returns-2
 unfolding Answers
 returns-2 c = inl (λ h. omega (arith, h .vars), refl)
 
-shared-slice-read-if3 : tie.Need-shared-slice-read-if3
-shared-slice-read-if3 c = search needs
+shared-slice-read-wide-2 : tie.Need-shared-slice-read-wide-2
+shared-slice-read-wide-2 c = search needs
+
+wide-requires-2 : tie.Need-wide-requires-2
+wide-requires-2 c κs = search needs
 
 returns-3 : tie.Need-returns-3
 unfolding Answers
 returns-3 c = inl (λ h. omega (arith, h .locs), refl)
 
-shared-slice-read-if4 : tie.Need-shared-slice-read-if4
-shared-slice-read-if4 c = search needs
+shared-slice-read-wide-3 : tie.Need-shared-slice-read-wide-3
+shared-slice-read-wide-3 c = search needs
+
+wide-requires-3 : tie.Need-wide-requires-3
+wide-requires-3 c κs = search needs
 
 returns-4 : tie.Need-returns-4
 unfolding Answers
@@ -49,11 +58,14 @@ bodies-spec =
     tie.close
     (tie.spec
     returns
-    shared-slice-read-if2
+    shared-slice-read-wide
+    wide-requires
     returns-2
-    shared-slice-read-if3
+    shared-slice-read-wide-2
+    wide-requires-2
     returns-3
-    shared-slice-read-if4
+    shared-slice-read-wide-3
+    wide-requires-3
     returns-4
     returns-5
     returns-6

@@ -1,12 +1,12 @@
 -- `book::read` meets its contract. Assumes nothing.
 use borrow.Author.Needs.{needs}
-use mathlib.Core.Path.{subst⁻¹}
+use mathlib.Core.Path.{subst⁻¹, sym, _∙_, ap}
 use native.Mathlib.Omega.{arith}
-use lib.ListN.{getD}
+use lib.ListN.{length, getD}
 use Rattle.logic.specs.Numbers.{answer}
 use Rattle.logic.specs.Checks.{Passes}
 use Rattle.logic.specs.Book.{Reads}
-use Rattle.logic.specs.BookLaws.{laid-out, body-short, reads-contents, reads-bodies, reads-nodes, reads-uses, bodies-pass, nodes-pass, nodes-sound}
+use Rattle.logic.specs.BookLaws.{laid-out, formula-short, reads-contents, reads-bodies, reads-nodes, reads-uses, bodies-pass, nodes-pass, nodes-sound}
 use Rattle.book.proofs.read.Statement.{statement}
 use Rattle.book.proofs.read.Tie as tie
 
@@ -79,7 +79,7 @@ one-parent-requires c κs =
     let f = c .before .before .before .before .before .before .part2 .result .now in
     let p = bodies-pass b f (c .before .before .before .before .before .bodies .result) (c .before .before .before .before .before .bodies .ensures) (c .before .before .before .before .if2 .left) in
     let k = nodes-pass (getD b 0 0) f (c .before .before .nodes .result) (c .before .before .nodes .ensures) (c .if3 .left) in
-    (omega (arith, p .1 .0 .0, p .1 .0 .1), omega (arith, body-short s 1 f (g, omega arith) (c .before .before .before .before .before .before .part2 .ensures)), nodes-sound (getD b 0 0) f k)
+    (omega (arith, p .1 .0 .0, p .1 .0 .1), omega (arith, ap length (c .before .before .before .before .before .before .part2 .ensures), formula-short s g (sym (ap length (c .before .before .before .before .before .before .before .part .ensures)) ∙ p .0 .three)), nodes-sound (getD b 0 0) f k)
 
 returns-4 : tie.Need-returns-4
 returns-4 c =

@@ -54,7 +54,7 @@ use Rattle.judge.proofs.split.Reads as split
 use Rattle.judge.proofs.split.Kinds as split-kinds
 use Rattle.judge.proofs.+a_holds+added+b_holds+both+child_holds+digit+fill+join+serves+split.Lts-split as split-lts
 use Rattle.judge.proofs.atom.Reads as atom-reads
-use Rattle.judge.proofs.wide.Reads as wide-reads
+use Rattle.leaves.proofs.wide.Reads as wide-reads
 use Rattle.judge.proofs.+a_holds+added+b_holds+both+child_holds+digit+fill+join+serves+split.{statement}
 use Rattle.judge.proofs.+a_holds+added+b_holds+both+child_holds+digit+fill+join+serves+split.Tie.{close}
 
@@ -196,7 +196,7 @@ a-holds-child-holds-requires : (t : ℕ) → a-holds-lts.Need-child-holds-requir
 a-holds-child-holds-requires t c κs = let l : c .wide .result < c .before .before .args .k = omega (arith, lower-a _ _ _ (c .before .before .pre .1 .0)) in (omega arith, (ready-below _ _ _ (c .before .before .pre .1 .0) _ l, (c .before .before .pre .1 .1)))
 
 a-holds-returns : (t : ℕ) → a-holds-lts.Need-returns (a-holds-uses t) (a-holds-at t) a-holds.Post
-a-holds-returns t c = c .child-holds .ensures ∙ ap (λ x. truthAt (c .before .before .before .args .f .now) (c .before .before .before .args .b .now) x (cells (c .before .before .before .args .w))) (c .before .wide .ensures)
+a-holds-returns t c = c .child-holds .ensures ∙ ap (λ x. truthAt (c .before .before .before .args .f .now) (c .before .before .before .args .b .now) x (cells (c .before .before .before .args .w))) (c .before .wide .ensures .0)
 
 added-element-copy-out-met : (t : ℕ) → added-lts.Need-element-copy-out-met (added-uses t) (added-at t) added.Post
 added-element-copy-out-met t c = search needs
@@ -238,7 +238,7 @@ b-holds-child-holds-requires : (t : ℕ) → b-holds-lts.Need-child-holds-requir
 b-holds-child-holds-requires t c κs = let l : c .wide .result < c .before .before .args .k = omega (arith, lower-b _ _ _ (c .before .before .pre .1 .0)) in (omega arith, (ready-below _ _ _ (c .before .before .pre .1 .0) _ l, (c .before .before .pre .1 .1)))
 
 b-holds-returns : (t : ℕ) → b-holds-lts.Need-returns (b-holds-uses t) (b-holds-at t) b-holds.Post
-b-holds-returns t c = c .child-holds .ensures ∙ ap (λ x. truthAt (c .before .before .before .args .f .now) (c .before .before .before .args .b .now) x (cells (c .before .before .before .args .w))) (c .before .wide .ensures)
+b-holds-returns t c = c .child-holds .ensures ∙ ap (λ x. truthAt (c .before .before .before .args .f .now) (c .before .before .before .args .b .now) x (cells (c .before .before .before .args .w))) (c .before .wide .ensures .0)
 
 both-a-holds-requires : (t : ℕ) → both-lts.Need-a-holds-requires (both-uses t) (both-at t) both.Post
 both-a-holds-requires t c κs = (omega arith, ((c .pre .1 .0), c .pre .1 .1))

@@ -16,11 +16,11 @@ sub-last c = search needs
 
 packed-requires : tie.Need-packed-requires
 unfolding Passes
-packed-requires c κs = let b = c .before .before .before in (b .pre .fewVars, omega (arith, b .pre .model .0))
+packed-requires c κs = let b = c .before .before .before in (omega (arith, b .pre .fewVars), omega (arith, b .pre .model .0))
 
 packed-requires-2 : tie.Need-packed-requires-2
 unfolding Passes
-packed-requires-2 c κs = let b = c .before .before .before .before in (b .pre .fewLocs, omega (arith, b .pre .model .0))
+packed-requires-2 c κs = let b = c .before .before .before .before in (omega (arith, b .pre .fewLocs), omega (arith, b .pre .model .0))
 
 unnamed-requires : tie.Need-unnamed-requires
 unnamed-requires c κs = search needs

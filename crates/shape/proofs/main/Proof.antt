@@ -2,7 +2,7 @@
 use borrow.Author.Needs.{needs}
 use mathlib.Core.Path.{sym}
 use lib.Seq.{length-take-le}
-use Rattle.text.specs.PrintsLaws.{text-within}
+use Rattle.print.specs.PrintsLaws.{printed-within}
 use Rattle.shape.proofs.main.Statement.{statement}
 use Rattle.shape.proofs.main.Tie as tie
 
@@ -15,17 +15,17 @@ read-full-requires c κs = search needs
 array-share-prefix-input : tie.Need-array-share-prefix-input
 array-share-prefix-input c = search needs
 
-slice-aggregate-put-text : tie.Need-slice-aggregate-put-text
-slice-aggregate-put-text c = search needs
+slice-aggregate-put-printed : tie.Need-slice-aggregate-put-printed
+slice-aggregate-put-printed c = search needs
 
-put-text-requires : tie.Need-put-text-requires
-put-text-requires c κs = search needs
+put-printed-requires : tie.Need-put-printed-requires
+put-printed-requires c κs = search needs
 
 array-share-prefix-out : tie.Need-array-share-prefix-out
-array-share-prefix-out c = text-within (c .put-text .ensures)
+array-share-prefix-out c = printed-within (c .put-printed .ensures)
 
 slice-aggregate-write-all : tie.Need-slice-aggregate-write-all
-slice-aggregate-write-all c = sym (length-take-le (c .before .put-text .result) _ (text-within (c .before .put-text .ensures)))
+slice-aggregate-write-all c = sym (length-take-le (c .before .put-printed .result) _ (printed-within (c .before .put-printed .ensures)))
 
 write-all-requires : tie.Need-write-all-requires
 write-all-requires c κs = search needs
@@ -40,8 +40,8 @@ main-spec =
     slice-aggregate-read-full
     read-full-requires
     array-share-prefix-input
-    slice-aggregate-put-text
-    put-text-requires
+    slice-aggregate-put-printed
+    put-printed-requires
     array-share-prefix-out
     slice-aggregate-write-all
     write-all-requires

@@ -6,10 +6,10 @@ use Rattle.examples.proofs.report.find.Statement.{statement}
 use Rattle.examples.proofs.report.find.Tie as tie
 
 abbrev Inv-loop : tie.InvT-loop
-Inv-loop text c from i₀ i = (from ≤ i) × (i ≤ length text)
+Inv-loop bytes c from i₀ i = (from ≤ i) × (i ≤ length bytes)
 
 abbrev μ-loop : tie.MeasureT-loop
-μ-loop text c from i₀ i = length text - i
+μ-loop bytes c from i₀ i = length bytes - i
 
 loop-holds : tie.Need-loop-holds Inv-loop μ-loop
 loop-holds c = search needs

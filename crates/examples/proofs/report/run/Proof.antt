@@ -7,10 +7,10 @@ use Rattle.examples.proofs.report.run.Statement.{statement}
 use Rattle.examples.proofs.report.run.Tie as tie
 
 abbrev Inv-loop : tie.InvT-loop
-Inv-loop text next₀ at₀ next at = at ≤ length text
+Inv-loop lines next₀ at₀ next at = at ≤ length lines
 
 abbrev μ-loop : tie.MeasureT-loop
-μ-loop text next₀ at₀ next at = length text - at
+μ-loop lines next₀ at₀ next at = length lines - at
 
 loop-holds : tie.Need-loop-holds Inv-loop μ-loop
 loop-holds c = search needs

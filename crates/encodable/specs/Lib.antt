@@ -1,0 +1,4 @@
+pub mod Known
+pub mod KnownLaws
+pub mod EncodableLaws
+pub mod CountingLaws

@@ -1,0 +1,93 @@
+// The hunt for the lowest candidate that fits a node of a table: each is tried once, in the candidates' order, up to the first
+// that fits or the end of the budget.
+use candidates::Candidate;
+use judge::node_holds;
+use logic::Answer;
+use logic::Table;
+ghost use mathlib.Core.Path.{_≡_};
+ghost use mathlib.Core.Logic.{_⊎_};
+ghost use Prim.Native.Nat.{suc, _≤_, _<_};
+ghost use lib.Dec.{leb};
+ghost use Rattle.logic.specs.Table.{Sound, tree};
+ghost use Rattle.logic.specs.Reflect.{Is};
+ghost use Rattle.logic.specs.Search.{CandidateFits, searched};
+ghost use Rattle.cells.specs.Cells.{most, cells, Unnamed};
+ghost use Rattle.judge.specs.Setting.{room};
+ghost use Rattle.candidates.specs.Counter.{WithinBounds, number};
+ghost use Rattle.hunt.specs.Hunt.{Hunted};
+
+// The locations that are not named: they depend on the stack alone, which changes only where the heap is empty again.
+fn unnamed_for(c: Candidate, u: u64) -> u64
+    requires { ⌜ WithinBounds c × (¬ (c .heap ≡ 0) → Unnamed (c .vars) (c .locs) (cells (c .stack)) u) ⌝ }
+    ensures { λ r. ⌜ Unnamed (c .vars) (c .locs) (cells (c .stack)) r ⌝ }
+{
+    if c.heap == 0 {
+        return cells::unnamed(c.vars, c.locs, c.stack);
+    }
+    u
+}
+
+// Whether the candidate fits node k of the table f; u is the set of the locations that are not named.
+fn fits(f: &Table, k: usize, p: u64, c: Candidate, u: u64) -> bool
+    requires { ⌜ (k < room) × Sound (c .vars) (now f) (suc k) × WithinBounds c × Unnamed (c .vars) (c .locs) (cells (c .stack)) u ⌝ }
+    ensures { λ r. ⌜ Is r (CandidateFits (c .vars) (c .locs) p (tree (now (f .entry)) k) (number c)) ⌝ }
+{
+    let b = [c.vars, c.locs, p, c.stack, u];
+    node_holds(f, k, &b, c.heap)
+}
+
+// What a hunt gives back: its answer, and the candidate that it stopped at.
+pub struct Ended {
+    pub answer: Answer,
+    pub at: Candidate,
+}
+
+fn stop(number: u64, tried: u64, at: Candidate) -> Ended
+    ensures { λ r. ⌜ (r .answer ≡ searched number tried) × (r .at ≡ at) ⌝ }
+{
+    Ended {
+        answer: Answer {
+            number,
+            place: 0,
+            tried,
+        },
+        at,
+    }
+}
+
+fn least(a: u64, b: u64) -> u64
+    ensures { λ r. ⌜ (r ≤ a) × (r ≤ b) × ((r ≡ a) ⊎ (r ≡ b)) ⌝ }
+{
+    if a < b { a } else { b }
+}
+
+// Whether the budget is enough for every candidate.
+fn enough(t: u64, budget: u64) -> bool
+    ensures { λ r. ⌜ r ≡ leb t budget ⌝ }
+{
+    t <= budget
+}
+
+// The hunt for the lowest candidate that fits node k of the table f.
+pub fn hunt(f: &Table, k: usize, v: u64, n: u64, p: u64, budget: u64) -> Ended
+    requires { ⌜ (k < room) × Sound v (now f) (suc k) × (v ≤ most) × (n ≤ most) ⌝ }
+    ensures { λ r. ⌜ Hunted v n (CandidateFits v n p (tree (now (f .entry)) k)) budget (r .answer) (r .at) ⌝ }
+{
+    let t = candidates::total(v, n);
+    let end = least(t, budget);
+    let mut c = Candidate::first(v, n);
+    let mut u = unnamed_for(c, 0);
+    let mut i: u64 = 0;
+    while i < end {
+        if fits(f, k, p, c, u) {
+            return stop(logic::YES, i + 1, c);
+        }
+        c = c.next();
+        u = unnamed_for(c, u);
+        i += 1;
+    }
+    if enough(t, budget) {
+        return stop(logic::NO, t, c);
+    }
+    stop(logic::SPENT, budget, c)
+}

@@ -1,0 +1,4 @@
+pub mod Puts
+pub mod PutsLaws
+pub mod Decimal
+pub mod DecimalLaws

@@ -1,0 +1,4 @@
+pub mod Setting
+pub mod RowLaws
+pub mod SettingLaws
+pub mod NodeLaws

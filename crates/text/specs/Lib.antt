@@ -1,9 +1,0 @@
-pub mod Text
-pub mod Printed
-pub mod Puts
-pub mod PutsLaws
-pub mod TextLaws
-pub mod TextExamples
-pub mod Prints
-pub mod PrintsLaws
-pub mod PrintsExamples
