@@ -29,7 +29,7 @@ int main(void)
     uint8_t model[HOLLYSPOOL_MOST_MODEL];
 
     print_answer("read", hollyspool_read(book, sizeof book));
-    /* A refusal, for comparison: the last byte is missing. */
+    /* A refusal, for comparison: the last byte is missing, so the body of entry 1 runs past the book. */
     print_answer("read", hollyspool_read(book, sizeof book - 1));
 
     for (uint64_t entry = 0; entry < 2; entry++) {

@@ -1,7 +1,7 @@
 /* The proved bench, for C. Link libexports.a, which `rt staticlib exports` leaves in target/staticlib.
  *
  * Each call takes any bytes at all. A slice is a pointer and a length; the pointer is never null, even where the length is
- * 0, and an output overlaps nothing else. Nothing is kept after a call. Document 01 says what each call answers. */
+ * 0, and an output overlaps nothing else. Nothing is kept after a call. Documents 01 and 02 say what each call answers. */
 #ifndef HOLLYSPOOL_H
 #define HOLLYSPOOL_H
 
@@ -12,13 +12,14 @@
 extern "C" {
 #endif
 
-/* The numbers given back. The place of a refusal is the node (14 to 16) or the byte (18, 22) that it names, from 0. */
+/* The numbers given back. The place of a refusal is the node (14 to 16), the byte (18, 22) or the entry (23, 24) that it
+ * names, from 0. */
 enum hollyspool_number {
     HOLLYSPOOL_YES = 0,               /* fits, found, written, satisfied */
     HOLLYSPOOL_NO = 1,                /* doesn't fit; none within the bounds; not satisfied */
     HOLLYSPOOL_SPENT = 2,             /* budget spent */
     HOLLYSPOOL_BOOK_LENGTH = 10,      /* book under 11 or over 206 bytes */
-    HOLLYSPOOL_CONTENTS = 11,         /* contents not as stated */
+    HOLLYSPOOL_CONTENTS = 11,         /* entry count not 2 */
     HOLLYSPOOL_BOUNDS = 12,           /* bounds body not 3 bytes, or a byte over 6 */
     HOLLYSPOOL_FORMULA = 13,          /* formula empty or not a multiple of 3 */
     HOLLYSPOOL_OPERATOR = 14,         /* operator not 1 to 10 */
@@ -29,7 +30,9 @@ enum hollyspool_number {
     HOLLYSPOOL_NOT_ENCODABLE = 19,    /* operator 9 or 10 under a negation */
     HOLLYSPOOL_OUTPUT_SHORT = 20,     /* output too short */
     HOLLYSPOOL_ASSIGNMENT_LENGTH = 21, /* assignment of wrong length */
-    HOLLYSPOOL_ASSIGNMENT_VALUE = 22  /* assignment's value out of range */
+    HOLLYSPOOL_ASSIGNMENT_VALUE = 22, /* assignment's value out of range */
+    HOLLYSPOOL_ENTRY_KIND = 23,       /* entry of a wrong kind */
+    HOLLYSPOOL_ENTRY_STRETCH = 24     /* entry with a wrong offset or length */
 };
 
 /* An output of this many bytes is never too short for a search, or for an encoding. */
@@ -52,7 +55,7 @@ typedef struct {
 /* Accepts a book (number 0) or says why not. */
 hollyspool_answer hollyspool_read(const uint8_t *book, size_t book_length);
 
-/* The body of entry 0 (bounds) or 1 (formula). Empty for a book refused before 12, and for any other entry. */
+/* The body of entry 0 (bounds) or 1 (formula). Empty for a book refused with 10, 11, 23 or 24, and for any other entry. */
 hollyspool_stretch hollyspool_body(const uint8_t *book, size_t book_length, uint64_t entry);
 
 /* Says whether the model fits the book's formula. */

@@ -41,9 +41,9 @@ fn bodies(b: &[u8], f: &[u8]) -> u64
 pub fn read(book: &[u8]) -> Answer
     ensures { λ r. ⌜ Reads (now (book .entry)) r ⌝ }
 {
-    let first = contents::number(book);
-    if first != logic::YES {
-        return answer_of(first, 0);
+    let first = contents::check(book);
+    if first.number != logic::YES {
+        return first;
     }
     let b = part(book, 0);
     let f = part(book, 1);

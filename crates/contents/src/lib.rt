@@ -1,12 +1,14 @@
 // The contents of a problem book: whether they are as stated, and the stretch of the caller's bytes that is an entry's body.
+use leaves::answer_of;
 use leaves::wide;
+use logic::Answer;
 ghost use mathlib.Core.Path.{_≡_};
-ghost use Prim.Native.Nat.{_+_, _<_};
+ghost use Prim.Native.Nat.{_+_, _<_, _≤_};
 ghost use lib.ListN.{length};
-ghost use Rattle.logic.specs.Numbers.{answer};
-ghost use Rattle.logic.specs.Checks.{Answers};
+ghost use Rattle.logic.specs.Checks.{Answers, _then_};
 ghost use Rattle.logic.specs.CheckLaws.{Yes};
-ghost use Rattle.logic.specs.Book.{word, offset, size, stretch, contentsChecks, Given, Body, Placed};
+ghost use Rattle.logic.specs.Reflect.{Is};
+ghost use Rattle.logic.specs.Book.{word, offset, size, stretch, KindOk, StretchOk, entryChecks, contentsChecks, Given, Body, Placed};
 
 // Where a body stands in the book.
 #[repr(C)]
@@ -23,37 +25,76 @@ fn word_at(s: &[u8], i: usize) -> usize
     wide(s[i]) + 256 * wide(s[i + 1])
 }
 
-// 0 where the contents are as stated, or the number that refuses them.
-pub fn number(book: &[u8]) -> u64
-    ensures { λ r. ⌜ Answers (contentsChecks (now (book .entry))) Yes (answer r 0) ⌝ }
+// Whether entry e, 0 or 1, has its kind.
+fn is_kind(book: &[u8], e: usize) -> bool
+    requires { ⌜ (11 ≤ length (now book)) × (e ≤ 1) ⌝ }
+    ensures { λ r. ⌜ Is r (KindOk (now (book .entry)) e) ⌝ }
+{
+    wide(book[1 + 5 * e]) == e + 1
+}
+
+// Whether entry 0's body starts at byte 11 and does not run past the book.
+fn is_first_placed(book: &[u8]) -> bool
+    requires { ⌜ 11 ≤ length (now book) ⌝ }
+    ensures { λ r. ⌜ Is r (StretchOk (now (book .entry)) 0) ⌝ }
+{
+    let start = word_at(book, 2);
+    if start != 11 {
+        return false;
+    }
+    start + word_at(book, 4) <= book.len()
+}
+
+// Whether entry 1's body starts where the first ends, and ends with the book.
+fn is_second_placed(book: &[u8]) -> bool
+    requires { ⌜ 11 ≤ length (now book) ⌝ }
+    ensures { λ r. ⌜ Is r (StretchOk (now (book .entry)) 1) ⌝ }
+{
+    let start = word_at(book, 7);
+    if start != word_at(book, 2) + word_at(book, 4) {
+        return false;
+    }
+    start + word_at(book, 9) == book.len()
+}
+
+// Whether the two entries are as they should be, the first before the second, and the kind before offset and length at each.
+fn entries(book: &[u8]) -> Answer
+    requires { ⌜ 11 ≤ length (now book) ⌝ }
+    ensures { λ r. ⌜ Answers (entryChecks (now (book .entry)) 0 then entryChecks (now (book .entry)) 1) Yes r ⌝ }
+{
+    let first_kind = is_kind(book, 0);
+    let first_placed = is_first_placed(book);
+    let second_kind = is_kind(book, 1);
+    let second_placed = is_second_placed(book);
+    if !first_kind {
+        return answer_of(logic::ENTRY_KIND, 0);
+    }
+    if !first_placed {
+        return answer_of(logic::ENTRY_STRETCH, 0);
+    }
+    if !second_kind {
+        return answer_of(logic::ENTRY_KIND, 1);
+    }
+    if !second_placed {
+        return answer_of(logic::ENTRY_STRETCH, 1);
+    }
+    answer_of(logic::YES, 0)
+}
+
+// Whether the contents are as stated: number 0, or the refusal of the first part that is not.
+pub fn check(book: &[u8]) -> Answer
+    ensures { λ r. ⌜ Answers (contentsChecks (now (book .entry))) Yes r ⌝ }
 {
     if book.len() < 11 {
-        return logic::BOOK_LENGTH;
+        return answer_of(logic::BOOK_LENGTH, 0);
     }
     if 206 < book.len() {
-        return logic::BOOK_LENGTH;
+        return answer_of(logic::BOOK_LENGTH, 0);
     }
     if book[0] != 2 {
-        return logic::CONTENTS;
+        return answer_of(logic::CONTENTS, 0);
     }
-    if book[1] != 1 {
-        return logic::CONTENTS;
-    }
-    if book[6] != 2 {
-        return logic::CONTENTS;
-    }
-    let first = word_at(book, 2);
-    if first != 11 {
-        return logic::CONTENTS;
-    }
-    let second = word_at(book, 7);
-    if second != first + word_at(book, 4) {
-        return logic::CONTENTS;
-    }
-    if second + word_at(book, 9) != book.len() {
-        return logic::CONTENTS;
-    }
-    logic::YES
+    entries(book)
 }
 
 // Entry 0's or entry 1's stretch, of contents that are as stated.
@@ -72,7 +113,8 @@ fn row_of(book: &[u8], entry: u64) -> Stretch
 pub fn placed(book: &[u8], entry: u64) -> Stretch
     ensures { λ r. ⌜ Placed (now (book .entry)) entry (r .start) (r .length) ⌝ }
 {
-    if number(book) != logic::YES {
+    let a = check(book);
+    if a.number != logic::YES {
         return Stretch {
             start: 0,
             length: 0,
@@ -109,7 +151,8 @@ pub fn part(book: &[u8], entry: u64) -> &[u8]
 pub fn body(book: &[u8], entry: u64) -> &[u8]
     ensures { λ r. ⌜ Body (now (book .entry)) entry (now r) ⌝ }
 {
-    if number(book) != logic::YES {
+    let a = check(book);
+    if a.number != logic::YES {
         return &book[0..0];
     }
     if 1 < entry {

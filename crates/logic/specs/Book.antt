@@ -3,11 +3,11 @@
 use mathlib.Core.Path.{_≡_}
 use mathlib.Core.List.{List, []}
 use mathlib.Core.Logic.{_⊎_}
-use Prim.Native.Nat.{ℕ, _+_, _-_, _*_, _/_, _%_, _<_, _≤_}
+use Prim.Native.Nat.{ℕ, zero, suc, _+_, _-_, _*_, _/_, _%_, _<_, _≤_}
 use lib.ListN.{length, getD, take, drop}
 use Rattle.logic.specs.declared.Answer.{Answer}
 use Rattle.logic.specs.Formula.{Form}
-use Rattle.logic.specs.Numbers.{answer, yes-number, book-length, contents, bounds, formula-length, operator, operand, tree-shape}
+use Rattle.logic.specs.Numbers.{answer, yes-number, book-length, contents, bounds, formula-length, operator, operand, tree-shape, entry-kind, entry-stretch}
 use Rattle.logic.specs.Checks.{Checks, done, check, _then_, upto, Passes, Answers}
 use Rattle.logic.specs.Table.{OperatorOk, OperandsOk, Sound, Tree, uses, tree}
 
@@ -48,6 +48,28 @@ pub record ContentsOk (s : List ℕ) : Type 0 where
   pub second : offset s 1 ≡ offset s 0 + size s 0
   pub ends : offset s 1 + size s 1 ≡ length s
 
+-- the same, part by part, as document 02's refusals take it. "11 is then only the entry count"
+abbrev pub CountOk : List ℕ → Type 0
+CountOk s = getD s 0 0 ≡ 2
+
+-- "23 a wrong kind": entry 0 has kind 1 and entry 1 kind 2
+abbrev pub KindOk : List ℕ → ℕ → Type 0
+KindOk s e = kind s e ≡ suc e
+
+-- "The first body starts at byte 11, the second where the first ends"
+unfoldable pub startOf : List ℕ → ℕ → ℕ
+startOf s zero = 11
+startOf s (suc e) = offset s e + size s e
+
+-- "A length is wrong if the body runs past the book, or if the second doesn't end with it."
+unfoldable pub EndOk : List ℕ → ℕ → Type 0
+EndOk s zero = offset s 0 + size s 0 ≤ length s
+EndOk s (suc e) = offset s (suc e) + size s (suc e) ≡ length s
+
+-- "24 a wrong offset or length"
+abbrev pub StretchOk : List ℕ → ℕ → Type 0
+StretchOk s e = (offset s e ≡ startOf s e) × EndOk s e
+
 -- "The body of an entry is handed back as that stretch of the caller's bytes"
 abbrev pub stretch : List ℕ → ℕ → List ℕ
 stretch s e = take (size s e) (drop (offset s e) s)
@@ -87,9 +109,13 @@ root f = nodes f - 1
 abbrev pub bookFormula : List ℕ → Form
 bookFormula s = tree (formulaOf s) (root (formulaOf s))
 
+-- "For 23 and 24 the place is the entry, 0 or 1. Refusals: 11, then entry by entry 23 before 24, all between 10 and 12."
+abbrev pub entryChecks : List ℕ → ℕ → Checks
+entryChecks s e = check (KindOk s e) entry-kind e (check (StretchOk s e) entry-stretch e done)
+
 -- "Order: 10 to 13; then nodes upwards, 14 before 15 at each; 16", "lowest non-root node not used exactly once"
 abbrev pub contentsChecks : List ℕ → Checks
-contentsChecks s = check (LengthOk s) book-length 0 (check (ContentsOk s) contents 0 done)
+contentsChecks s = check (LengthOk s) book-length 0 (check (CountOk s) contents 0 (entryChecks s 0 then entryChecks s 1))
 
 abbrev pub bodyChecks : List ℕ → List ℕ → Checks
 bodyChecks b f = check (BoundsOk b) bounds 0 (check (FormulaOk f) formula-length 0 done)

@@ -11,7 +11,7 @@ use Rattle.logic.specs.Numbers.{answer}
 use Rattle.logic.specs.Checks.{Checks, _then_, upto, Passes, Answers}
 use Rattle.logic.specs.CheckLaws.{Single, Yes, Refuses, answers-single, yes-single, answers-zero, passes-of-yes, fails-of-refused, answers-split, then-passes, passes-at, answers-refused, answers-after, refuses-then, refuses-upto}
 use Rattle.logic.specs.Table.{Sound}
-use Rattle.logic.specs.Book.{mostNodes, offset, size, stretch, LaidOut, Given, varsOf, formulaOf, nodes, root, contentsChecks, bodyChecks, nodeChecks, useChecks, tableChecks, bookChecks, Reads, Accepted, Whole, Body, Placed}
+use Rattle.logic.specs.Book.{mostNodes, offset, size, startOf, EndOk, stretch, LaidOut, Given, varsOf, formulaOf, nodes, root, contentsChecks, bodyChecks, nodeChecks, useChecks, tableChecks, bookChecks, Reads, Accepted, Whole, Body, Placed}
 
 -- two answers that the reader's statement allows are equal, and so are two bodies and two places
 pub reads-single : (s : List ℕ) → Single (Reads s)
@@ -31,8 +31,8 @@ placed-single s e a i b j p q =
     (λ x. ⊎-elim (λ y. absurd (x .0 (y .0))) (λ y. (x .1 .0 ∙ sym (y .1 .0), x .1 .1 ∙ sym (y .1 .1))) q) p
 
 contents-refuses : (s : List ℕ) → Refuses (contentsChecks s)
-unfolding Refuses
-contents-refuses s = (omega arith, (omega arith, tt))
+unfolding Refuses _then_
+contents-refuses s = (omega arith, (omega arith, (omega arith, (omega arith, (omega arith, (omega arith, tt))))))
 
 pub body-refuses : (b f : List ℕ) → Refuses (bodyChecks b f)
 unfolding Refuses
@@ -46,14 +46,28 @@ pub use-refuses : (f : List ℕ) (k : ℕ) → Refuses (useChecks f k)
 unfolding Refuses
 use-refuses f k = (omega arith, tt)
 
--- number 0 of the contents, and any other
-pub laid-out : (s : List ℕ) (r : ℕ) → Answers (contentsChecks s) Yes (answer r 0) → r ≡ 0 → LaidOut s
-unfolding Passes
-laid-out s r q e = let p = passes-of-yes (contentsChecks s) (answer r 0) (contents-refuses s) q e in (p .0, p .1 .0)
+-- the contents are as stated exactly if no part of them is refused
+pub laid-passes : (s : List ℕ) → LaidOut s → Passes (contentsChecks s)
+unfolding Passes _then_ startOf EndOk
+laid-passes s g =
+    let c = g .1 in
+    (g .0, (c .entries, (c .bounds-kind, ((c .first, omega (arith, c .second, c .ends)), (c .formula-kind, ((c .second, c .ends), tt))))))
 
-pub not-laid-out : (s : List ℕ) (r : ℕ) → Answers (contentsChecks s) Yes (answer r 0) → ¬ (r ≡ 0) → ¬ LaidOut s
-unfolding Passes
-not-laid-out s r q f p = fails-of-refused (contentsChecks s) (answer r 0) q f (p .0, (p .1, tt))
+pub passes-laid : (s : List ℕ) → Passes (contentsChecks s) → LaidOut s
+unfolding Passes _then_ startOf EndOk
+passes-laid s p =
+    let first = p .1 .1 in
+    let second = first .1 .1 in (
+      p .0,
+      record { entries = p .1 .0; bounds-kind = first .0; formula-kind = second .0; first = first .1 .0 .0; second = second .1 .0 .0; ends = second .1 .0 .1 },
+    )
+
+-- number 0 of the contents, and any other
+pub laid-out : (s : List ℕ) (a : Answer) → Answers (contentsChecks s) Yes a → a .number ≡ 0 → LaidOut s
+laid-out s a q e = passes-laid s (passes-of-yes (contentsChecks s) a (contents-refuses s) q e)
+
+pub not-laid-out : (s : List ℕ) (a : Answer) → Answers (contentsChecks s) Yes a → ¬ (a .number ≡ 0) → ¬ LaidOut s
+not-laid-out s a q f g = fails-of-refused (contentsChecks s) a q f (laid-passes s g)
 
 -- the stretch lies in the book
 pub stretch-fits : (s : List ℕ) (e : ℕ) → Given s e → offset s e + size s e ≤ length s
@@ -126,7 +140,7 @@ module _ (s : List ℕ) (ok : Accepted s) where
   pub accepted-whole : Whole s
   unfolding Passes
   accepted-whole =
-      let laid′ : LaidOut s = (parts .0 .0, parts .0 .1 .0) in
+      let laid′ : LaidOut s = passes-laid s (parts .0) in
       let b = parts .1 .0 .0 in
       let f = parts .1 .0 .1 .0 in
       let fits = formula-short s laid′ (b .three) in
@@ -151,9 +165,9 @@ reads-contents s a q f =
 module _ (s b f : List ℕ) (g : LaidOut s) (eb : b ≡ stretch s 0) (ef : f ≡ formulaOf s) where
   -- what the bodies and the table answer is what the book answers
   bodies-after : (a : Answer) → Answers (bodyChecks b f then tableChecks (getD b 0 0) f) Yes a → Reads s a
-  unfolding Reads Passes
+  unfolding Reads
   bodies-after a q =
-      answers-after (contentsChecks s) (bodyChecks (stretch s 0) (formulaOf s) then tableChecks (varsOf s) (formulaOf s)) Yes a (g .0, (g .1, tt))
+      answers-after (contentsChecks s) (bodyChecks (stretch s 0) (formulaOf s) then tableChecks (varsOf s) (formulaOf s)) Yes a (laid-passes s g)
       (subst₂ (λ (x y : List ℕ). Answers (bodyChecks x y then tableChecks (getD x 0 0) y) Yes a) eb ef q)
 
   pub reads-bodies : (a : Answer) → Answers (bodyChecks b f) Yes a → ¬ (a .number ≡ 0) → Reads s a

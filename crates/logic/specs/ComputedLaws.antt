@@ -11,6 +11,7 @@ use Rattle.logic.specs.Tests.{andb, orb, all}
 use Rattle.logic.specs.Reflect.{Is, is-iff, is-eq, is-le, is-and, is-or, is-all}
 use Rattle.logic.specs.Table.{Operand, kindOf, opOf, operandOf, uses}
 use Rattle.logic.specs.Book.{most, kind, offset, size, stretch, varsOf, formulaOf, nodes, root, ContentsOk, BoundsOk, FormulaOk, LaidOut, contentsChecks, bodyChecks, nodeChecks, useChecks, tableChecks, Accepted}
+use Rattle.logic.specs.BookLaws.{laid-passes, passes-laid}
 use Rattle.logic.specs.Model.{byteChecks, modelChecks}
 use Rattle.logic.specs.Computed.{laidOut, boundsOk, formulaOk, operandOk, nodeOk, tableOk, accepted, modelOk}
 
@@ -73,7 +74,7 @@ pub is-accepted : (s : List ℕ) → Is (accepted s) (Accepted s)
 unfolding accepted Accepted Passes
 is-accepted s =
     is-then (contentsChecks s) (bodyChecks (stretch s 0) (formulaOf s) then tableChecks (varsOf s) (formulaOf s)) _ _
-    (is-iff (is-laid-out s) (λ q. (q .0, (q .1, tt))) (λ q. (q .0, q .1 .0)))
+    (is-iff (is-laid-out s) (laid-passes s) (passes-laid s))
     (is-then (bodyChecks (stretch s 0) (formulaOf s)) (tableChecks (varsOf s) (formulaOf s)) _ _
     (is-iff (is-and _ _ (is-bounds (stretch s 0)) (is-formula (formulaOf s))) (λ q. (q .0, (q .1, tt))) (λ q. (q .0, q .1 .0)))
     (is-table (varsOf s) (formulaOf s)))

@@ -19,7 +19,7 @@ spent-number = 2
 abbrev pub book-length : ℕ
 book-length = 10
 
--- "contents not as stated"
+-- "11 is then only the entry count", of document 01's "contents not as stated"
 abbrev pub contents : ℕ
 contents = 11
 
@@ -64,6 +64,13 @@ assignment-length = 21
 
 abbrev pub assignment-value : ℕ
 assignment-value = 22
+
+-- "23 a wrong kind, 24 a wrong offset or length" (document 02)
+abbrev pub entry-kind : ℕ
+entry-kind = 23
+
+abbrev pub entry-stretch : ℕ
+entry-stretch = 24
 
 -- "Each answer is a number, a place and a tried count (0 outside search)."
 abbrev pub answer : ℕ → ℕ → Answer

@@ -36,9 +36,9 @@ module _ (k : ℕ) where
       (λ y. let r = answers-below c R a (w .1) (y .1) l in ((y .0, r .0), r .1)) q
 
 book-from : (s : List ℕ) → From book-length (bookChecks s)
-unfolding From
+unfolding From _then_
 book-from s =
-    from-then 10 (contentsChecks s) (bodyChecks (stretch s 0) (formulaOf s) then tableChecks (varsOf s) (formulaOf s)) (omega arith, (omega arith, tt))
+    from-then 10 (contentsChecks s) (bodyChecks (stretch s 0) (formulaOf s) then tableChecks (varsOf s) (formulaOf s)) (omega arith, (omega arith, (omega arith, (omega arith, (omega arith, (omega arith, tt))))))
     (from-then 10 (bodyChecks (stretch s 0) (formulaOf s)) (tableChecks (varsOf s) (formulaOf s)) (omega arith, (omega arith, tt))
     (from-then 10 (upto (nodeChecks (varsOf s) (formulaOf s)) (nodes (formulaOf s))) (upto (useChecks (formulaOf s)) (root (formulaOf s)))
     (from-upto 10 (nodeChecks (varsOf s) (formulaOf s)) (λ i. (omega arith, (omega arith, tt))) (nodes (formulaOf s)))

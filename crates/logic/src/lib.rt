@@ -47,3 +47,7 @@ pub const OUTPUT_LENGTH: u64 = 20;
 pub const ASSIGNMENT_LENGTH: u64 = 21;
 
 pub const ASSIGNMENT_VALUE: u64 = 22;
+
+pub const ENTRY_KIND: u64 = 23;
+
+pub const ENTRY_STRETCH: u64 = 24;

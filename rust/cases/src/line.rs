@@ -1,4 +1,4 @@
-//! The lines of `fixed.txt` and `random.txt`; the folder's README.md gives their form.
+//! The lines of `fixed.txt`, `random.txt` and `next.txt`; the folder's README.md gives their form.
 
 /// The call that a line is about.
 #[derive(Clone, Copy, Debug, PartialEq, Eq)]
@@ -57,11 +57,12 @@ impl Case {
     }
 }
 
-/// Every line of both files.
+/// Every line of the three files.
 pub fn all() -> Vec<Case> {
     let fixed = lines("fixed.txt", include_str!("../fixed.txt"));
     let random = lines("random.txt", include_str!("../random.txt"));
-    fixed.chain(random).collect()
+    let next = lines("next.txt", include_str!("../next.txt"));
+    fixed.chain(random).chain(next).collect()
 }
 
 /// The lines about one call.

@@ -5,7 +5,7 @@ use cases::made::{self, tree};
 use cases::random::Random;
 use second::book::{Book, BOUNDS, CONTENTS, MOST, MOST_NODES};
 
-use crate::damage::damage;
+use crate::damage::{damage, damage_contents};
 
 /// The visits of nodes that the operators 9 and 10 of a book may cost a plain judge: with more,
 /// one nested septraction would take the time of all other inputs.
@@ -34,6 +34,7 @@ impl Books {
             0 => (0..random.below(230)).map(|_| random.byte()).collect(),
             1 => loose_nodes(random),
             2..=4 => self.known[random.below(self.known.len())].clone(),
+            5 => return wrong_contents(random),
             _ => made(random),
         };
         if random.below(3) == 0 {
@@ -55,6 +56,13 @@ fn made(random: &mut Random) -> Vec<u8> {
     let most_nodes = random.one_of(&[3, 8, 8, 16, MOST_NODES]);
     let count = 1 + random.below(most_nodes);
     made::book(bounds, &tree(random, bounds[0], count, &OPERATORS))
+}
+
+/// A book that is accepted but for one byte of its contents.
+fn wrong_contents(random: &mut Random) -> Vec<u8> {
+    let mut book = made(random);
+    damage_contents(random, &mut book);
+    book
 }
 
 /// Nodes that are seldom a tree.

@@ -1,6 +1,7 @@
 //! Bytes with something wrong in one place.
 
 use cases::random::Random;
+use second::book::CONTENTS;
 
 /// Changes, adds or takes away bytes.
 pub fn damage(random: &mut Random, bytes: &mut Vec<u8>) {
@@ -23,4 +24,15 @@ pub fn damage(random: &mut Random, bytes: &mut Vec<u8>) {
             bytes.swap(at, other);
         }
     }
+}
+
+/// Changes one byte of a book's contents, and nothing else.
+pub fn damage_contents(random: &mut Random, book: &mut [u8]) {
+    let byte = &mut book[random.below(CONTENTS)];
+    *byte = match random.below(4) {
+        0 => byte.wrapping_add(1),
+        1 => byte.wrapping_sub(1),
+        2 => *byte ^ 1 << random.below(8),
+        _ => byte.wrapping_add(1 + random.up_to(254)),
+    };
 }

@@ -11,9 +11,9 @@ use crate::refusal::Refusal;
 #[derive(Clone, Copy, Debug, PartialEq, Eq)]
 #[repr(C)]
 pub struct Answer {
-    /// 0 to 2, or the number of a refusal, 10 to 22.
+    /// 0 to 2, or the number of a refusal, 10 to 24.
     pub number: u64,
-    /// The node or the byte that a refusal names, from 0; otherwise 0.
+    /// The entry, the node or the byte that a refusal names, from 0; otherwise 0.
     pub place: u64,
     /// How many candidates a search has tried; 0 outside search.
     pub tried: u64,

@@ -11,15 +11,16 @@ pub const MOST_ENCODED: usize = 6354;
 /// ```
 /// let p1 = [2, 1, 11, 0, 3, 0, 2, 14, 0, 3, 0, 1, 1, 1, 3, 1, 1];
 /// assert_eq!(hollyspool::read(&p1).number, 0);
-/// assert_eq!(hollyspool::read(&p1[..16]).number, 11);
+/// let cut = hollyspool::read(&p1[..16]);
+/// assert_eq!((cut.number, cut.place), (24, 1));
 /// ```
 pub fn read(book: &[u8]) -> Answer {
     // SAFETY: the pointer and the length are those of one live slice, which the call only reads.
     unsafe { ffi::hollyspool_read(book.as_ptr(), book.len()) }
 }
 
-/// The body of an entry, as that stretch of the caller's bytes. Empty for a book refused before
-/// 12, and for an entry other than 0 and 1.
+/// The body of an entry, as that stretch of the caller's bytes. Empty for a book refused for its
+/// length or its contents (10, 11, 23, 24), and for an entry other than 0 and 1.
 ///
 /// ```
 /// let p1 = [2, 1, 11, 0, 3, 0, 2, 14, 0, 3, 0, 1, 1, 1, 3, 1, 1];

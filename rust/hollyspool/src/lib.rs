@@ -1,5 +1,5 @@
-//! The proved bench, as safe Rust. Document 01 says what each call answers; the archive that is
-//! linked here is proved to answer so.
+//! The proved bench, as safe Rust. Documents 01 and 02 say what each call answers; the archive that
+//! is linked here is proved to answer so.
 //!
 //! The six calls take bytes, any bytes at all, and give an [`Answer`]. Around them stand a builder
 //! of books ([`Book::new`]), a way back from a book to its formula ([`Book::accept`]), and words

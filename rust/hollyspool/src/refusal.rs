@@ -1,11 +1,11 @@
-//! The refusals: what each number from 10 to 22 means.
+//! The refusals: what each number from 10 to 24 means.
 
 use std::error::Error;
 use std::fmt;
 
 use crate::answer::Answer;
 
-/// Why a call refused its input, with the node or byte that the answer's place names.
+/// Why a call refused its input, with the entry, node or byte that the answer's place names.
 ///
 /// ```
 /// let answer = hollyspool::read(&[2, 1, 11]);
@@ -18,7 +18,7 @@ use crate::answer::Answer;
 pub enum Refusal {
     /// 10: a book under 11 or over 206 bytes.
     BookLength,
-    /// 11: contents not as stated.
+    /// 11: contents of other than two entries.
     Contents,
     /// 12: a bounds body of other than 3 bytes, or a byte over 6.
     Bounds,
@@ -57,10 +57,20 @@ pub enum Refusal {
         /// The first such byte.
         byte: u64,
     },
+    /// 23: an entry of the contents whose kind is wrong.
+    EntryKind {
+        /// The entry, 0 or 1.
+        entry: u64,
+    },
+    /// 24: an entry of the contents whose offset or length is wrong.
+    EntryStretch {
+        /// The entry, 0 or 1.
+        entry: u64,
+    },
 }
 
 impl Refusal {
-    /// The refusal behind an answer; none if its number is not 10 to 22.
+    /// The refusal behind an answer; none if its number is not 10 to 24.
     pub fn of(answer: Answer) -> Option<Refusal> {
         let place = answer.place;
         Some(match answer.number {
@@ -77,6 +87,8 @@ impl Refusal {
             20 => Refusal::OutputShort,
             21 => Refusal::AssignmentLength,
             22 => Refusal::AssignmentValue { byte: place },
+            23 => Refusal::EntryKind { entry: place },
+            24 => Refusal::EntryStretch { entry: place },
             _ => return None,
         })
     }
@@ -97,6 +109,8 @@ impl Refusal {
             Refusal::OutputShort => 20,
             Refusal::AssignmentLength => 21,
             Refusal::AssignmentValue { .. } => 22,
+            Refusal::EntryKind { .. } => 23,
+            Refusal::EntryStretch { .. } => 24,
         }
     }
 }
@@ -105,7 +119,7 @@ impl fmt::Display for Refusal {
     fn fmt(&self, f: &mut fmt::Formatter<'_>) -> fmt::Result {
         match self {
             Refusal::BookLength => write!(f, "the book is under 11 or over 206 bytes"),
-            Refusal::Contents => write!(f, "the contents are not as stated"),
+            Refusal::Contents => write!(f, "the number of entries is not 2"),
             Refusal::Bounds => write!(f, "the bounds are not three bytes of 0 to 6"),
             Refusal::Formula => write!(f, "the formula is empty or no multiple of 3 bytes"),
             Refusal::Operator { node } => {
@@ -135,6 +149,10 @@ impl fmt::Display for Refusal {
             ),
             Refusal::AssignmentValue { byte } => {
                 write!(f, "byte {byte} of the assignment is out of range")
+            }
+            Refusal::EntryKind { entry } => write!(f, "entry {entry} has a wrong kind"),
+            Refusal::EntryStretch { entry } => {
+                write!(f, "entry {entry} has a wrong offset or length")
             }
         }
     }

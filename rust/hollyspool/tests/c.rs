@@ -11,7 +11,7 @@ const ARCHIVE: &str = concat!(
 
 const OUTPUT: &str = "\
 read: number 0 place 0 tried 0
-read: number 11 place 0 tried 0
+read: number 24 place 1 tried 0
 body: 01 01 01
 body: 03 01 01
 search: number 2 place 0 tried 5

@@ -1,4 +1,5 @@
-//! Document 01, "Numbers given back": each answer is a number, a place and a tried count.
+//! Document 01, "Numbers given back": each answer is a number, a place and a tried count. Document
+//! 02 adds to the numbers.
 
 /// What each number means.
 #[derive(Clone, Copy, Debug, PartialEq, Eq)]
@@ -12,7 +13,7 @@ pub enum Number {
     Spent = 2,
     /// A book under 11 or over 206 bytes.
     BookLength = 10,
-    /// Contents not as stated.
+    /// Contents of other than two entries.
     Contents = 11,
     /// A bounds body of other than three bytes, or a bound too large.
     Bounds = 12,
@@ -36,6 +37,10 @@ pub enum Number {
     AssignmentLength = 21,
     /// An assignment's value out of range.
     AssignmentValue = 22,
+    /// An entry of the wrong kind.
+    EntryKind = 23,
+    /// An entry with a wrong offset or length.
+    EntryStretch = 24,
 }
 
 /// The answer of every call.

@@ -1,4 +1,5 @@
-//! Document 01, "The problem book": contents, bodies, bounds and the formula's tree.
+//! Document 01, "The problem book": contents, bodies, bounds and the formula's tree; and document
+//! 02, [1]: what in the contents is wrong.
 
 use std::ops::Range;
 
@@ -10,8 +11,14 @@ pub const MOST: usize = 6;
 /// The most nodes a formula has.
 pub const MOST_NODES: usize = 64;
 
-/// The bytes before the first body: the number of entries, and five bytes for each of two.
-pub const CONTENTS: usize = 11;
+/// The bounds and the formula.
+const ENTRIES: usize = 2;
+
+/// The bytes of an entry: kind, offset, length.
+const ENTRY: usize = 5;
+
+/// The bytes before the first body: the number of entries, and the entries.
+pub const CONTENTS: usize = 1 + ENTRY * ENTRIES;
 
 /// The bytes of a bounds body.
 pub const BOUNDS: usize = 3;
@@ -66,8 +73,8 @@ pub fn read(book: &[u8]) -> Answer {
     settled(Book::accept(book).map(|_| Answer::plain(Number::Yes)))
 }
 
-/// Where the body of an entry stands in the book, as `start..end`. Empty for a book refused before
-/// 12, and for an entry other than 0 and 1.
+/// Where the body of an entry stands in the book, as `start..end`. Empty for a book refused for its
+/// length or its contents, and for an entry other than 0 and 1.
 pub fn body(book: &[u8], entry: u64) -> Range<usize> {
     match (bodies(book), entry) {
         (Ok([bounds, _]), 0) => bounds,
@@ -92,22 +99,37 @@ impl<'a> Book<'a> {
     }
 }
 
-/// Numbers 10 and 11: the two bodies, in order, without gaps, the second ending with the book.
-fn bodies(book: &[u8]) -> Result<[Range<usize>; 2], Answer> {
+/// Numbers 10 and 11, and then entry by entry 23 and 24: the two bodies, in order, without gaps.
+fn bodies(book: &[u8]) -> Result<[Range<usize>; ENTRIES], Answer> {
     if book.len() < CONTENTS || book.len() > LONGEST {
         return Err(Answer::plain(Number::BookLength));
     }
+    if usize::from(book[0]) != ENTRIES {
+        return Err(Answer::plain(Number::Contents));
+    }
+    let first = stretch(book, 0, CONTENTS)?;
+    let second = stretch(book, 1, first.end)?;
+    Ok([first, second])
+}
+
+/// Numbers 23 and 24: the body of an entry, which starts at `start` and ends within the book, the
+/// last entry's with the book.
+fn stretch(book: &[u8], entry: usize, start: usize) -> Result<Range<usize>, Answer> {
+    let at = 1 + ENTRY * entry;
+    if usize::from(book[at]) != entry + 1 {
+        return Err(Answer::at(Number::EntryKind, entry));
+    }
     let two_bytes = |at: usize| usize::from(u16::from_le_bytes([book[at], book[at + 1]]));
-    let first = two_bytes(2)..two_bytes(2) + two_bytes(4);
-    let second = two_bytes(7)..two_bytes(7) + two_bytes(9);
-    let as_stated = [book[0], book[1], book[6]] == [2, 1, 2]
-        && first.start == CONTENTS
-        && second.start == first.end
-        && second.end == book.len();
-    if as_stated {
-        Ok([first, second])
+    let offset = two_bytes(at + 1);
+    let end = offset + two_bytes(at + 3);
+    let ends_well = match entry + 1 {
+        ENTRIES => end == book.len(),
+        _ => end <= book.len(),
+    };
+    if offset == start && ends_well {
+        Ok(start..end)
     } else {
-        Err(Answer::plain(Number::Contents))
+        Err(Answer::at(Number::EntryStretch, entry))
     }
 }
 

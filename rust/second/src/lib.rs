@@ -1,4 +1,4 @@
-//! A second bench, written from document 01 alone and independent of the proved one.
+//! A second bench, written from documents 01 and 02 alone and independent of the proved one.
 //!
 //! Its answers are what the proved calls are compared with, and its judge is what their speed is
 //! measured against: an expert's plain Rust, with masks for sets of locations.

@@ -21,7 +21,7 @@ fn bytes_that_are_no_book() {
 
 fn refused(book: &[u8]) {
     let answer = read(book);
-    assert!(matches!(answer.number, 10 | 11));
+    assert!(matches!(answer.number, 10 | 11 | 23 | 24));
     assert_eq!((answer.place, answer.tried), (0, 0));
     for entry in [0, 1, 2, 255, 256, u64::MAX] {
         assert_eq!(body(book, entry), 0..0);

@@ -47,23 +47,30 @@ fn accepted_in_json(book: &Book) -> String {
 
 fn refused(book: &[u8], refusal: Refusal) -> String {
     let mut text = format!("refused  number {}\nmeaning  {refusal}\n", refusal.number());
-    if let Some(Fault { byte, should }) = Fault::of(book, refusal) {
-        let is = match book.get(byte) {
-            Some(value) => format!("is {value:02x}"),
-            None => "is not there".to_owned(),
+    if let Some(fault) = Fault::of(book, refusal) {
+        let is = match (fault.value(book), fault.bytes.len()) {
+            (None, _) => "not there".to_owned(),
+            (Some(value), 1) => format!("{value:02x}"),
+            (Some(value), _) => {
+                let [low, high] = value.to_le_bytes();
+                format!("{low:02x} {high:02x} ({value})")
+            }
         };
-        text += &format!("byte     {byte} {is}; expected {should}\n");
+        let Fault { bytes, should } = fault;
+        text += &format!("byte     {} is {is}; expected {should}\n", bytes.start);
     }
     text
 }
 
 fn refused_in_json(book: &[u8], refusal: Refusal) -> String {
     let object = object(hollyspool::read(book), &refusal.to_string());
-    match Fault::of(book, refusal) {
-        Some(Fault { byte, should }) => object
-            .number("byte", byte as u64)
-            .text("expected", &should)
-            .line(),
-        None => object.line(),
-    }
+    let Some(fault) = Fault::of(book, refusal) else {
+        return object.line();
+    };
+    let object = object.number("byte", fault.bytes.start as u64);
+    let object = match fault.value(book) {
+        Some(value) => object.number("is", value.into()),
+        None => object,
+    };
+    object.text("expected", &fault.should).line()
 }

@@ -83,8 +83,8 @@ const EXPLAIN: &str = "\
 hollyspool explain FILE [--json]
 
 Prints the formula in readable notation, the bounds, T (the number of candidates) and the number of
-rows of the encoding. For a book that is refused: the number, what it means, and the byte that it
-points at.
+rows of the encoding. For a book that is refused: the number, what it means, the byte that it points
+at, what stands there and what should.
 ";
 
 const DRAW: &str = "\

@@ -10,44 +10,40 @@ use Rattle.logic.specs.BookLaws.{laid-out, formula-short, reads-contents, reads
 use Rattle.book.proofs.read.Statement.{statement}
 use Rattle.book.proofs.read.Tie as tie
 
-number-requires : tie.Need-number-requires
-number-requires c κs = search needs
-
-answer-of-requires : tie.Need-answer-of-requires
-answer-of-requires c κs = search needs
+check-requires : tie.Need-check-requires
+check-requires c κs = search needs
 
 returns : tie.Need-returns
 returns c =
-    let s = c .before .before .before .before .args .book .now in
-    let q = c .before .before .number in
-    subst⁻¹ (Reads s) (c .answer-of .ensures) (reads-contents s (answer (q .result) 0) (q .ensures) (c .before .if1 .taken))
+    let q = c .before .before .check in
+    reads-contents (c .before .before .before .before .args .book .now) (q .result) (q .ensures) (c .if1 .taken)
 
 part-requires : tie.Need-part-requires
 part-requires c κs =
-    let s = c .before .before .before .args .book .now in
-    let g = laid-out s (c .before .number .result) (c .before .number .ensures) (c .if1 .left) in
+    let s = c .before .before .before .before .args .book .now in
+    let g = laid-out s (c .before .before .check .result) (c .before .before .check .ensures) (c .if1 .left) in
     (g, omega arith)
 
 part-requires-2 : tie.Need-part-requires-2
 part-requires-2 c κs =
-    let s = c .before .before .before .before .args .book .now in
-    let g = laid-out s (c .before .before .number .result) (c .before .before .number .ensures) (c .before .if1 .left) in
+    let s = c .before .before .before .before .before .args .book .now in
+    let g = laid-out s (c .before .before .before .check .result) (c .before .before .before .check .ensures) (c .before .if1 .left) in
     (g, omega arith)
 
 bodies-requires : tie.Need-bodies-requires
 bodies-requires c κs = search needs
 
-answer-of-requires-2 : tie.Need-answer-of-requires-2
-answer-of-requires-2 c κs = search needs
+answer-of-requires : tie.Need-answer-of-requires
+answer-of-requires c κs = search needs
 
 returns-2 : tie.Need-returns-2
 returns-2 c =
-    let s = c .before .before .before .before .before .before .before .before .args .book .now in
-    let g = laid-out s (c .before .before .before .before .before .before .number .result) (c .before .before .before .before .before .before .number .ensures) (c .before .before .before .before .before .if1 .left) in
+    let s = c .before .before .before .before .before .before .before .before .before .args .book .now in
+    let g = laid-out s (c .before .before .before .before .before .before .before .check .result) (c .before .before .before .before .before .before .before .check .ensures) (c .before .before .before .before .before .if1 .left) in
     let b = c .before .before .before .before .part .result .now in
     let f = c .before .before .before .part2 .result .now in
     let q = c .before .before .bodies in
-    subst⁻¹ (Reads s) (c .answer-of2 .ensures)
+    subst⁻¹ (Reads s) (c .answer-of .ensures)
     (reads-bodies s b f g (c .before .before .before .before .part .ensures) (c .before .before .before .part2 .ensures) (answer (q .result) 0) (q .ensures) (c .before .if2 .taken))
 
 shared-slice-read-v : tie.Need-shared-slice-read-v
@@ -63,8 +59,8 @@ nodes-requires c κs = search needs
 
 returns-3 : tie.Need-returns-3
 returns-3 c =
-    let s = c .before .before .before .before .before .before .before .before .before .before .before .args .book .now in
-    let g = laid-out s (c .before .before .before .before .before .before .before .before .before .number .result) (c .before .before .before .before .before .before .before .before .before .number .ensures) (c .before .before .before .before .before .before .before .before .if1 .left) in
+    let s = c .before .before .before .before .before .before .before .before .before .before .before .before .args .book .now in
+    let g = laid-out s (c .before .before .before .before .before .before .before .before .before .before .check .result) (c .before .before .before .before .before .before .before .before .before .before .check .ensures) (c .before .before .before .before .before .before .before .before .if1 .left) in
     let b = c .before .before .before .before .before .before .before .part .result .now in
     let f = c .before .before .before .before .before .before .part2 .result .now in
     let p = bodies-pass b f (c .before .before .before .before .before .bodies .result) (c .before .before .before .before .before .bodies .ensures) (c .before .before .before .before .if2 .left) in
@@ -73,8 +69,8 @@ returns-3 c =
 one-parent-requires : tie.Need-one-parent-requires
 unfolding Passes
 one-parent-requires c κs =
-    let s = c .before .before .before .before .before .before .before .before .before .before .before .args .book .now in
-    let g = laid-out s (c .before .before .before .before .before .before .before .before .before .number .result) (c .before .before .before .before .before .before .before .before .before .number .ensures) (c .before .before .before .before .before .before .before .before .if1 .left) in
+    let s = c .before .before .before .before .before .before .before .before .before .before .before .before .args .book .now in
+    let g = laid-out s (c .before .before .before .before .before .before .before .before .before .before .check .result) (c .before .before .before .before .before .before .before .before .before .before .check .ensures) (c .before .before .before .before .before .before .before .before .if1 .left) in
     let b = c .before .before .before .before .before .before .before .part .result .now in
     let f = c .before .before .before .before .before .before .part2 .result .now in
     let p = bodies-pass b f (c .before .before .before .before .before .bodies .result) (c .before .before .before .before .before .bodies .ensures) (c .before .before .before .before .if2 .left) in
@@ -83,8 +79,8 @@ one-parent-requires c κs =
 
 returns-4 : tie.Need-returns-4
 returns-4 c =
-    let s = c .before .before .before .before .before .before .before .before .before .before .before .before .args .book .now in
-    let g = laid-out s (c .before .before .before .before .before .before .before .before .before .before .number .result) (c .before .before .before .before .before .before .before .before .before .before .number .ensures) (c .before .before .before .before .before .before .before .before .before .if1 .left) in
+    let s = c .before .before .before .before .before .before .before .before .before .before .before .before .before .args .book .now in
+    let g = laid-out s (c .before .before .before .before .before .before .before .before .before .before .before .check .result) (c .before .before .before .before .before .before .before .before .before .before .before .check .ensures) (c .before .before .before .before .before .before .before .before .before .if1 .left) in
     let b = c .before .before .before .before .before .before .before .before .part .result .now in
     let f = c .before .before .before .before .before .before .before .part2 .result .now in
     let p = bodies-pass b f (c .before .before .before .before .before .before .bodies .result) (c .before .before .before .before .before .before .bodies .ensures) (c .before .before .before .before .before .if2 .left) in
@@ -95,13 +91,12 @@ pub read-spec : {M : Type 1} → statement M
 read-spec =
     tie.close
     (tie.spec
-    number-requires
-    answer-of-requires
+    check-requires
     returns
     part-requires
     part-requires-2
     bodies-requires
-    answer-of-requires-2
+    answer-of-requires
     returns-2
     shared-slice-read-v
     nodes-requires

@@ -8,8 +8,8 @@ use Rattle.logic.specs.BookLaws.{laid-out, not-laid-out}
 use Rattle.contents.proofs.body.Statement.{statement}
 use Rattle.contents.proofs.body.Tie as tie
 
-number-requires : tie.Need-number-requires
-number-requires c κs = search needs
+check-requires : tie.Need-check-requires
+check-requires c κs = search needs
 
 sub-result : tie.Need-sub-result
 sub-result c = search needs
@@ -22,7 +22,7 @@ part-result-end c = search needs
 
 returns : tie.Need-returns
 unfolding Body
-returns c = inr (λ g. not-laid-out (c .before .before .before .before .args .book .now) (c .before .before .number .result) (c .before .before .number .ensures) (c .before .if1 .taken) (g .0), refl)
+returns c = inr (λ g. not-laid-out (c .before .before .before .before .before .args .book .now) (c .before .before .before .check .result) (c .before .before .before .check .ensures) (c .before .if1 .taken) (g .0), refl)
 
 sub-result-2 : tie.Need-sub-result-2
 sub-result-2 c = search needs
@@ -38,17 +38,17 @@ unfolding Body
 returns-2 c = inr (λ g. omega (arith, g .1), refl)
 
 part-requires : tie.Need-part-requires
-part-requires c κs = (laid-out (c .before .before .before .before .args .book .now) (c .before .before .number .result) (c .before .before .number .ensures) (c .before .if1 .left), omega arith)
+part-requires c κs = (laid-out (c .before .before .before .before .before .args .book .now) (c .before .before .before .check .result) (c .before .before .before .check .ensures) (c .before .if1 .left), omega arith)
 
 returns-3 : tie.Need-returns-3
 unfolding Body
-returns-3 c = inl ((laid-out (c .before .before .before .before .before .args .book .now) (c .before .before .before .number .result) (c .before .before .before .number .ensures) (c .before .before .if1 .left), omega arith), c .part .ensures)
+returns-3 c = inl ((laid-out (c .before .before .before .before .before .before .args .book .now) (c .before .before .before .before .check .result) (c .before .before .before .before .check .ensures) (c .before .before .if1 .left), omega arith), c .part .ensures)
 
 pub body-spec : {M : Type 1} → statement M
 body-spec =
     tie.close
     (tie.spec
-    number-requires
+    check-requires
     sub-result
     part-result-start
     part-result-end

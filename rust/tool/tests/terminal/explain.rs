@@ -17,30 +17,59 @@ fn accepted() {
 #[test]
 fn one_byte_changed() {
     for (at, value, number, points_at) in [
-        (0, 3, 11, 0),
-        (1, 2, 11, 1),
-        (2, 12, 11, 2),
-        (3, 1, 11, 2),
-        (4, 4, 11, 7),
-        (4, 7, 11, 4),
-        (5, 1, 11, 4),
-        (6, 1, 11, 6),
-        (7, 15, 11, 7),
-        (9, 2, 11, 9),
-        (10, 1, 11, 9),
-        (11, 7, 12, 11),
-        (13, 255, 12, 13),
-        (14, 0, 14, 14),
-        (14, 11, 14, 14),
-        (14, 8, 15, 14),
-        (15, 2, 15, 15),
-        (16, 2, 15, 16),
+        (0, 3, 11, "0 is 03"),
+        (1, 2, 23, "1 is 02"),
+        (2, 12, 24, "2 is 0c 00 (12)"),
+        (3, 1, 24, "2 is 0b 01 (267)"),
+        (4, 4, 24, "7 is 0e 00 (14)"),
+        (4, 7, 24, "4 is 07 00 (7)"),
+        (5, 1, 24, "4 is 03 01 (259)"),
+        (6, 1, 23, "6 is 01"),
+        (7, 15, 24, "7 is 0f 00 (15)"),
+        (8, 1, 24, "7 is 0e 01 (270)"),
+        (9, 2, 24, "9 is 02 00 (2)"),
+        (10, 1, 24, "9 is 03 01 (259)"),
+        (11, 7, 12, "11 is 07"),
+        (13, 255, 12, "13 is ff"),
+        (14, 0, 14, "14 is 00"),
+        (14, 11, 14, "14 is 0b"),
+        (14, 8, 15, "14 is 08"),
+        (15, 2, 15, "15 is 02"),
+        (16, 2, 15, "16 is 02"),
     ] {
         let mut book = P1;
         book[at] = value;
         let explained = run_on(&book, &["explain", "-"]);
         assert_eq!(explained.status, 3, "{at} {value}");
-        points(&explained.out, number, &format!("{points_at} is "));
+        points(&explained.out, number, points_at);
+    }
+}
+
+/// Each field of the contents with a wrong value: what is wrong, and what should stand there.
+#[test]
+fn fields_of_the_contents() {
+    for (at, should) in [
+        (0, "the number of entries, 2"),
+        (1, "kind 1, the bounds"),
+        (2, "offset of the bounds, 11, the end of the contents"),
+        (4, "length of the bounds, at most 6, up to the book's end"),
+        (6, "kind 2, the formula"),
+        (7, "offset of the formula, 14, the end of the bounds"),
+        (9, "length of the formula, 3, up to the book's end"),
+    ] {
+        let meaning = match at {
+            0 => "the number of entries is not 2",
+            1 => "entry 0 has a wrong kind",
+            2 | 4 => "entry 0 has a wrong offset or length",
+            6 => "entry 1 has a wrong kind",
+            _ => "entry 1 has a wrong offset or length",
+        };
+        let mut book = P1;
+        book[at] = 99;
+        let explained = run_on(&book, &["explain", "-"]).out;
+        let start = format!("meaning  {meaning}\nbyte     {at} is 63");
+        assert!(explained.contains(&start), "{explained}");
+        assert!(explained.ends_with(&format!("{should}\n")), "{explained}");
     }
 }
 
@@ -55,9 +84,11 @@ fn larger_faults() {
     for (book, number, byte) in [
         (P1[..10].to_vec(), 10, "10 is not there"),
         (vec![0; 300], 10, "206 is 00"),
-        (with(&[1, 1], &[3, 1, 1]), 12, "4 is 02"),
-        (with(&[1, 1, 1], &[]), 13, "9 is 00"),
-        (with(&[1, 1, 1], &[3, 1, 1, 8]), 13, "9 is 04"),
+        (with(&[1, 1], &[3, 1, 1]), 12, "4 is 02 00 (2)"),
+        (with(&[1, 1, 1], &[]), 13, "9 is 00 00 (0)"),
+        (with(&[1, 1, 1], &[3, 1, 1, 8]), 13, "9 is 04 00 (4)"),
+        (P1[..16].to_vec(), 24, "9 is 03 00 (3)"),
+        (P1[..13].to_vec(), 24, "4 is 03 00 (3)"),
         (
             with(&[1, 1, 1], &[3, 1, 1, 8, 0, 1]),
             15,

@@ -81,6 +81,40 @@ fn a_refused_book() {
     }
 }
 
+/// The field that is wrong: its byte, what stands there, and what should.
+#[test]
+fn a_wrong_field_of_the_contents() {
+    for (at, value, [number, entry, byte, is]) in [
+        (0, 3, [11, 0, 0, 3]),
+        (1, 4, [23, 0, 1, 4]),
+        (3, 1, [24, 0, 2, 267]),
+        (5, 2, [24, 0, 4, 515]),
+        (6, 1, [23, 1, 6, 1]),
+        (7, 16, [24, 1, 7, 16]),
+        (10, 1, [24, 1, 9, 259]),
+    ] {
+        let mut book = P1;
+        book[at] = value;
+        let fields = fields(&run_on(&book, &["explain", "-", "--json"]));
+        let names = ["number", "place", "byte", "is"];
+        for (name, number) in names.into_iter().zip([number, entry, byte, is]) {
+            assert_eq!(fields[name], Json::Number(number), "{at}: {name}");
+        }
+        let in_words = run_on(&book, &["explain", "-"]).out;
+        let Json::Text(expected) = &fields["expected"] else {
+            panic!("no words: {fields:?}");
+        };
+        assert!(in_words.ends_with(&format!("; expected {expected}\n")));
+    }
+}
+
+#[test]
+fn a_field_that_is_not_there() {
+    let fields = fields(&run_on(&P1[..10], &["explain", "-", "--json"]));
+    assert_eq!(fields["byte"], Json::Number(10));
+    assert!(!fields.contains_key("is"));
+}
+
 #[test]
 fn what_stands_in_a_book() {
     let run = run_on(&P1, &["explain", "-", "--json"]);
