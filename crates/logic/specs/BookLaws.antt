@@ -1,6 +1,6 @@
 -- What the reader's statements give: the stretch of a body lies in the book, one answer at most, and what an accepted book is.
 -- Assumes nothing.
-use mathlib.Core.Path.{_≡_, sym, _∙_, ap, ap₂, subst₂}
+use mathlib.Core.Path.{_≡_, sym, _∙_, ap₂, subst₂}
 use mathlib.Core.List.{List}
 use mathlib.Core.Logic.{⊎-elim}
 use Prim.Native.Nat.{ℕ, zero, suc, _+_, _-_, _*_, _≤_}

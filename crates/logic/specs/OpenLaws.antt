@@ -1,14 +1,13 @@
 -- What an opened book gives to the call that opened it. Assumes nothing.
 use mathlib.Core.Path.{_≡_, sym, ap, subst}
 use mathlib.Core.List.{List}
-use Prim.Native.Nat.{ℕ, _-_, _<_, _≤_}
+use Prim.Native.Nat.{ℕ, _≤_}
 use native.Mathlib.Omega.{arith}
 use lib.ListN.{length}
 use Rattle.logic.specs.declared.Answer.{Answer}
 use Rattle.logic.specs.Numbers.{yes-number}
-use Rattle.logic.specs.Formula.{Form}
 use Rattle.logic.specs.Table.{tree}
-use Rattle.logic.specs.Book.{most, mostNodes, stretch, formulaOf, nodes, root, bookFormula, Reads, Opens, Accepted, Whole, Known, Bodies, Given}
+use Rattle.logic.specs.Book.{most, stretch, formulaOf, root, bookFormula, Reads, Opens, Whole, Known, Bodies, Given}
 use Rattle.logic.specs.BookLaws.{reads-yes, accepted-whole}
 
 -- an accepted book's bodies can be taken

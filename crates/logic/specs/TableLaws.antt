@@ -1,16 +1,14 @@
 -- Laws of the node table: its operands by their kind, and how often a node is used. Assumes nothing.
 use mathlib.Core.Path.{_≡_, refl}
 use mathlib.Core.List.{List}
-use Prim.Native.Nat.{ℕ, zero, suc, _+_, _<_, _≤_}
-use native.Mathlib.Decide.{ℕ-discrete}
+use Prim.Native.Nat.{ℕ, zero, suc, _+_, _≤_}
 use native.Mathlib.Numerals.{add-one}
-use native.Mathlib.Omega.{arith}
 use lib.Dec.{eqb, leb, ltb}
 use borrow.Author.Tests.{eq-eqb, ne-eqb, le-leb, lt-leb}
 use Rattle.logic.specs.Tests.{andb, pick}
 use mathlib.Core.Bool.{Bool, true, false}
 use Rattle.logic.specs.Reflect.{Is, is-eq, is-le, is-lt}
-use Rattle.logic.specs.Table.{opOf, operandOf, kindOf, Operand, OperandOk, Sound, usesOn, uses}
+use Rattle.logic.specs.Table.{opOf, operandOf, kindOf, Operand, usesOn, uses}
 
 module _ (v k : ℕ) where
   pub is-zero : (t x : ℕ) → t ≡ 0 → Is (eqb x 0) (Operand v k t x)
@@ -63,27 +61,3 @@ module _ (f : List ℕ) (k : ℕ) where
   pub uses-more : (j : ℕ) → uses f (j + 1) k ≡ uses f j k + (usesOn f j k 0 + usesOn f j k 1)
   unfolding uses
   uses-more j = rw (add-one j)
-
--- a node is not used by itself or by a lower node: "Children have lower numbers than their parent."
-module _ (v : ℕ) (f : List ℕ) (n k : ℕ) (s : Sound v f n) where
-  side-low : (j side : ℕ) → j ≤ k → OperandOk v f j side → usesOn f j k side ≡ 0
-  unfolding Operand
-  side-low j side h ok = go (ℕ-discrete (kindOf (opOf f j) side) 2)
-    where
-      child : (t : ℕ) → t ≡ 2 → Operand v j t (operandOf f j side) → operandOf f j side < j
-      child zero e q = absurd (omega arith)
-      child (suc zero) e q = absurd (omega arith)
-      child (suc (suc t)) e q = q
-
-      go : Dec (kindOf (opOf f j) side ≡ 2) → usesOn f j k side ≡ 0
-      go (yes e) = not-used-on f j k side e (λ z. omega (arith, child (kindOf (opOf f j) side) e ok))
-      go (no e) = no-child-on f j k side e
-
-  pub uses-low : (j : ℕ) → j ≤ k + 1 → j ≤ n → uses f j k ≡ 0
-  unfolding uses
-  uses-low zero h m = refl
-  uses-low (suc j) h m =
-      let q = s j m .operands in
-      let a = side-low j 0 (omega arith) (q .0) in
-      let b = side-low j 1 (omega arith) (q .1) in
-      rw (uses-low j (omega arith) (omega arith), a, b)

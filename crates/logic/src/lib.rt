@@ -10,8 +10,10 @@ pub struct Answer {
 // The most that v, n and p may be.
 pub const MOST: usize = 6;
 
-// A formula's table, with room for the most nodes that it may have.
-pub const TABLE: usize = 192;
+// The most nodes that a formula may have, and a table with room for them.
+pub const NODES: usize = 64;
+
+pub const TABLE: usize = 3 * NODES;
 
 pub type Table = [u8; TABLE];
 

@@ -1,5 +1,5 @@
 -- From the hunt in an accepted book's formula to the search's answer and output. Assumes nothing.
-use mathlib.Core.Path.{_≡_, sym, subst, _∙_, ap, ap₂}
+use mathlib.Core.Path.{_≡_, subst, _∙_, ap, ap₂}
 use mathlib.Core.List.{List, _++_}
 use Prim.Native.Nat.{ℕ, suc, _+_, _-_, _<_, _≤_}
 use native.Mathlib.Omega.{arith}

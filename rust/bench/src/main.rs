@@ -1,4 +1,4 @@
-//! Models judged, candidates searched, books encoded and assignments judged a second, by the proved bench and by the second
+//! Books read and encoded, models and assignments judged, and candidates searched a second, by the proved bench and by the second
 //! one, in one run; how a search's time grows with its budget; and how much stack the proved judge takes.
 //!
 //! Both are given the same bytes, book and model anew for each call; there are no buffers to clear.
@@ -57,10 +57,35 @@ const NESTED: [(&str, u8); 3] = [("¬", 8), ("*", 9), ("−⊛", 10)];
 const BUDGETS: [u64; 4] = [3_000_000, 3_000_000, 3_000_000, 20_000];
 
 fn main() {
+    read();
     judged();
     searched();
     encoded();
     depths();
+}
+
+/// A book of 64 nodes: 32 atoms, the conjunction of all of them, and its negation.
+fn largest() -> Vec<u8> {
+    let mut nodes: Vec<[u8; 3]> = (0..32).map(|k| [1, k % 7, 0]).collect();
+    nodes.push([5, 0, 1]);
+    nodes.extend((33..63).map(|k| [5, k - 1, k - 31]));
+    nodes.push([8, 62, 0]);
+    book(BOUNDS, &nodes)
+}
+
+fn read() {
+    println!("bounds 6 6 6, books read a second");
+    println!(
+        "{:<34} {:<12} {:>12} {:>12} {:>6}",
+        "formula", "call", "proved", "second", "ratio"
+    );
+    let book = largest();
+    compare_calls(
+        "64 nodes",
+        "read",
+        |_| hollyspool::read(black_box(&book)).number,
+        |_| second::book::read(black_box(&book)).number,
+    );
 }
 
 fn judged() {

@@ -1,5 +1,4 @@
 -- `search::hunt_in` meets its contract. Assumes nothing.
-use borrow.Author.Needs.{needs}
 use native.Mathlib.Omega.{arith}
 use Rattle.search.specs.Searching.{hunt-ready, hunted-in}
 use Rattle.search.proofs.hunt_in.Statement.{statement}
