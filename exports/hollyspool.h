@@ -13,7 +13,7 @@ extern "C" {
 #endif
 
 /* The numbers given back. The place of a refusal is the node (14 to 16), the byte (18, 22) or the entry (23, 24) that it
- * names, from 0. */
+ * names, from 0, or the variable (25), from 1. */
 enum hollyspool_number {
     HOLLYSPOOL_YES = 0,               /* fits, found, written, satisfied */
     HOLLYSPOOL_NO = 1,                /* doesn't fit; none within the bounds; not satisfied */
@@ -32,7 +32,8 @@ enum hollyspool_number {
     HOLLYSPOOL_ASSIGNMENT_LENGTH = 21, /* assignment of wrong length */
     HOLLYSPOOL_ASSIGNMENT_VALUE = 22, /* assignment's value out of range */
     HOLLYSPOOL_ENTRY_KIND = 23,       /* entry of a wrong kind */
-    HOLLYSPOOL_ENTRY_STRETCH = 24     /* entry with a wrong offset or length */
+    HOLLYSPOOL_ENTRY_STRETCH = 24,    /* entry with a wrong offset or length */
+    HOLLYSPOOL_STRAY_VARIABLE = 25    /* declared variable that no atom names; from a search alone */
 };
 
 /* An output of this many bytes is never too short for a search, or for an encoding. */
@@ -62,7 +63,8 @@ hollyspool_stretch hollyspool_body(const uint8_t *book, size_t book_length, uint
 hollyspool_answer hollyspool_judge(const uint8_t *book, size_t book_length, const uint8_t *model, size_t model_length);
 
 /* Looks for the lowest candidate that fits, and writes it, v + n bytes, if its number is below the budget. Output bytes change
- * only with number 0, only at the front, and only as many as are written. */
+ * only with number 0, only at the front, and only as many as are written. Refuses a book with a declared variable that no
+ * atom names, as no other call does. */
 hollyspool_answer hollyspool_search(const uint8_t *book, size_t book_length, uint64_t budget, uint8_t *out, size_t out_length);
 
 /* Writes the encoding of the book's formula, as a book whose contents say how long it is. Output bytes change as for search. */

@@ -54,7 +54,7 @@ pub fn taken(w: u64) -> u64
 }
 
 // Bit l.
-fn bit(l: u64) -> u64
+pub fn bit(l: u64) -> u64
     requires { ⌜ l ≤ suc most ⌝ }
     ensures { λ r. ⌜ r ≡ 2 ^ l ⌝ }
 {

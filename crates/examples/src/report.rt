@@ -41,10 +41,22 @@ fn say_stated(stated: bool) {
     }
 }
 
-// Whether the search answers what the second judge has found, to the last byte.
+// The lowest declared variable that no atom names, or 0: the search refuses such a book.
+fn stray(book: &[u8], bounds: [u8; 3]) -> u8 {
+    if book.len() < 17 {
+        return 0;
+    }
+    second::stray(&book[14..], bounds[0])
+}
+
+// Whether the search answers what the second judge has found, to the last byte, or refuses a stray variable.
 fn same_search(book: &[u8], bounds: [u8; 3], swept: Swept) -> bool {
     let mut out = [0u8; 12];
     let a = search::search(book, BUDGET, &mut out);
+    let x = stray(book, bounds);
+    if x != 0 {
+        return a.number == logic::STRAY_VARIABLE && a.place == x as u64;
+    }
     if swept.first == 0 {
         return a.number == logic::NO && a.tried == swept.all;
     }
@@ -67,6 +79,9 @@ fn end(t: Tally, stated: bool, book: &[u8], bounds: [u8; 3], swept: Swept) -> Ta
         say(b" | THE JUDGES DIFFER, ");
     }
     io::print_decimal(1, swept.all);
+    if stray(book, bounds) != 0 {
+        say(b", the search refuses a stray variable");
+    }
     say(b"\n");
     counted(t, stated && agree, false)
 }

@@ -26,7 +26,7 @@ module _ (s : List ℕ) (b b′ : ℕ) (o : List ℕ) (a : Answer) (o′ : List 
   pub larger-budget : Searches s b′ o a o′
   larger-budget =
       record {
-        answer = outcome-answers s b′ o (known .accepted) (known .room) a (outcome-larger (FitsAt s) (totalOf s) b b′ a l w (known .outcome));
+        answer = outcome-answers s b′ o (known .accepted) (known .rest) a (outcome-larger (FitsAt s) (totalOf s) b b′ a l w (known .outcome));
         wrote = q .wrote;
         kept = q .kept;
       }

@@ -7,7 +7,7 @@ use lib.Dec.{eqb, leb}
 use lib.ListN.{length, getD}
 use Rattle.logic.specs.Formula.{Form}
 use Rattle.logic.specs.Heap.{Map}
-use Rattle.logic.specs.Tests.{andb, orb, all}
+use Rattle.logic.specs.Tests.{andb, orb, all, any}
 use Rattle.logic.specs.Truth.{truth}
 use Rattle.logic.specs.Table.{opOf, operandOf, kindOf, uses}
 use Rattle.logic.specs.Book.{most, kind, offset, size, stretch, varsOf, locsOf, pathOf, formulaOf, nodes, root, bookFormula}
@@ -44,6 +44,12 @@ accepted s = andb (laidOut s) (andb (andb (boundsOk (stretch s 0)) (formulaOk (f
 
 unfoldable pub modelOk : ℕ → ℕ → List ℕ → Bool
 modelOk v n m = andb (eqb (length m) (v + n)) (all (v + n) (λ i. orb (leb (getD m i 0) n) (andb (leb v i) (eqb (getD m i 0) 255))))
+
+unfoldable pub namedByAtom : List ℕ → ℕ → Bool
+namedByAtom f x = any (nodes f) (λ k. andb (leb (opOf f k) 4) (orb (eqb (operandOf f k 0) x) (eqb (operandOf f k 1) x)))
+
+unfoldable pub allNamed : ℕ → List ℕ → Bool
+allNamed v f = all v (λ i. namedByAtom f (suc i))
 
 -- Fits, worked out
 abbrev pub fits : ℕ → ℕ → ℕ → Form → Map → Map → Bool

@@ -1,19 +1,22 @@
 -- What is worked out of a book and a model is what document 01 says of them. Assumes nothing.
 use mathlib.Core.Bool.{Bool}
 use mathlib.Core.List.{List}
-use Prim.Native.Nat.{ℕ, zero, suc, _+_, _<_, _%_}
+use mathlib.Core.Logic.{_⊎_}
+use mathlib.Core.Path.{_≡_}
+use Prim.Native.Nat.{ℕ, zero, suc, _+_, _<_, _≤_, _%_}
 use native.Mathlib.Omega.{arith}
 use lib.Dec.{eqb, leb}
 use lib.ListN.{length, getD}
 use Rattle.logic.specs.Checks.{Checks, _then_, upto, Passes}
 use Rattle.logic.specs.CheckLaws.{passes-none, passes-more, passes-at, passes-then, then-passes}
 use Rattle.logic.specs.Tests.{andb, orb, all}
-use Rattle.logic.specs.Reflect.{Is, is-iff, is-eq, is-le, is-and, is-or, is-all}
+use Rattle.logic.specs.Reflect.{Is, is-iff, is-eq, is-le, is-and, is-or, is-all, is-any}
 use Rattle.logic.specs.Table.{Operand, kindOf, opOf, operandOf, uses}
 use Rattle.logic.specs.Book.{most, kind, offset, size, stretch, varsOf, formulaOf, nodes, root, ContentsOk, BoundsOk, FormulaOk, LaidOut, contentsChecks, bodyChecks, nodeChecks, useChecks, tableChecks, Accepted}
 use Rattle.logic.specs.BookLaws.{laid-passes, passes-laid}
 use Rattle.logic.specs.Model.{byteChecks, modelChecks}
-use Rattle.logic.specs.Computed.{laidOut, boundsOk, formulaOk, operandOk, nodeOk, tableOk, accepted, modelOk}
+use Rattle.logic.specs.Strays.{NamedByAtom, nameChecks}
+use Rattle.logic.specs.Computed.{laidOut, boundsOk, formulaOk, operandOk, nodeOk, tableOk, namedByAtom, allNamed, accepted, modelOk}
 
 is-contents : (s : List ℕ) → Is (andb (eqb (getD s 0 0) 2) (andb (andb (eqb (kind s 0) 1) (eqb (kind s 1) 2)) (andb (eqb (offset s 0) 11) (andb (eqb (offset s 1) (offset s 0 + size s 0)) (eqb (offset s 1 + size s 1) (length s)))))) (ContentsOk s)
 is-contents s =
@@ -69,6 +72,19 @@ is-table v f =
     is-then (upto (nodeChecks v f) (nodes f)) (upto (useChecks f) (root f)) _ _
     (is-upto (nodeChecks v f) (nodeOk v f) (is-node v f) (nodes f))
     (is-upto (useChecks f) (λ k. eqb (uses f (nodes f) k) 1) (λ k. is-iff (is-eq (uses f (nodes f) k) 1) (λ q. (q, tt)) (λ q. q .0)) (root f))
+
+is-named : (f : List ℕ) (x : ℕ) → Is (namedByAtom f x) (NamedByAtom f x)
+unfolding namedByAtom
+is-named f x =
+    is-iff
+    (is-any (λ k. andb (leb (opOf f k) 4) (orb (eqb (operandOf f k 0) x) (eqb (operandOf f k 1) x)))
+    (λ k. (opOf f k ≤ 4) × ((operandOf f k 0 ≡ x) ⊎ (operandOf f k 1 ≡ x))) (nodes f)
+    (λ k l. is-and _ _ (is-le (opOf f k) 4) (is-or _ _ (is-eq (operandOf f k 0) x) (is-eq (operandOf f k 1) x))))
+    (λ q. (q .0, q .1, q .2 .0, q .2 .1)) (λ q. (q .0, q .1, (q .2, q .3)))
+
+pub is-all-named : (v : ℕ) (f : List ℕ) → Is (allNamed v f) (Passes (upto (nameChecks f) v))
+unfolding allNamed Passes
+is-all-named v f = is-upto (nameChecks f) (λ i. namedByAtom f (suc i)) (λ i. is-iff (is-named f (suc i)) (λ q. (q, tt)) (λ q. q .0)) v
 
 pub is-accepted : (s : List ℕ) → Is (accepted s) (Accepted s)
 unfolding accepted Accepted Passes

@@ -9,7 +9,7 @@ use Rattle.logic.specs.Tests.{any, all, digit, inPart, heapOf, part, res
 use Rattle.logic.specs.Truth.{truth}
 use Rattle.logic.specs.Table.{kindOf, uses, tree, deep, formOf, atomOf, joinOf, joinFrom5}
 use Rattle.logic.specs.Model.{stackIn, heapIn}
-use Rattle.logic.specs.Computed.{laidOut, boundsOk, formulaOk, operandOk, nodeOk, tableOk, accepted, modelOk, fitsBook}
+use Rattle.logic.specs.Computed.{laidOut, boundsOk, formulaOk, operandOk, nodeOk, tableOk, allNamed, namedByAtom, accepted, modelOk, fitsBook}
 use Rattle.logic.specs.Candidates.{digitsOf, bytesTo}
 use Rattle.logic.specs.Trials.{fitsAt, first, outcomeOf}
 use Rattle.logic.specs.Entries.{every, entry-of}
@@ -89,7 +89,7 @@ right i (judge w) e = judged-right w e
 right i (search w) e = searched-right w e
 
 all-right : every test 0 rows ≡ true
-unfolding rows judging searching bookOf test every judgedTest searchedTest worked-out written sameBytes fitsAt first outcomeOf digitsOf bytesTo accepted laidOut boundsOk formulaOk nodeOk operandOk tableOk modelOk fitsBook stackIn heapIn truth any all digit inPart heapOf part rest union without named empty isValue inLocs within apartAt apart points chain sepAt septAt kindOf uses tree deep formOf atomOf joinOf joinFrom5
+unfolding rows judging searching bookOf test every judgedTest searchedTest worked-out written sameBytes fitsAt first outcomeOf digitsOf bytesTo accepted laidOut boundsOk formulaOk nodeOk operandOk tableOk allNamed namedByAtom modelOk fitsBook stackIn heapIn truth any all digit inPart heapOf part rest union without named empty isValue inLocs within apartAt apart points chain sepAt septAt kindOf uses tree deep formOf atomOf joinOf joinFrom5
 all-right = refl
 
 pub examples : (k : ℕ) (w : Row) → k < length rows → Right (getD rows k w)

@@ -26,6 +26,7 @@ pub mod OpenLaws
 pub mod Candidates
 pub mod NumberLaws
 pub mod CandidateLaws
+pub mod Strays
 pub mod TotalLaws
 pub mod Search
 pub mod Trials

@@ -72,6 +72,10 @@ entry-kind = 23
 abbrev pub entry-stretch : ℕ
 entry-stretch = 24
 
+-- "A declared variable that no atom names" (document 02)
+abbrev pub stray-variable : ℕ
+stray-variable = 25
+
 -- "Each answer is a number, a place and a tried count (0 outside search)."
 abbrev pub answer : ℕ → ℕ → Answer
 answer m q = record { number = m; place = q; tried = 0 }

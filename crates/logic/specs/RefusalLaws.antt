@@ -2,15 +2,15 @@
 use mathlib.Core.Path.{_≡_, ap}
 use mathlib.Core.List.{List}
 use mathlib.Core.Logic.{⊎-elim}
-use Prim.Native.Nat.{ℕ, zero, suc, _+_, _<_, _≤_}
+use Prim.Native.Nat.{ℕ, zero, suc, _<_, _≤_}
 use native.Mathlib.Omega.{arith}
-use lib.ListN.{length}
 use Rattle.logic.specs.declared.Answer.{Answer}
 use Rattle.logic.specs.Numbers.{book-length}
 use Rattle.logic.specs.Checks.{Checks, done, check, _then_, upto, Passes, Answers}
 use Rattle.logic.specs.CheckLaws.{then-passes}
 use Rattle.logic.specs.Book.{stretch, varsOf, locsOf, formulaOf, nodes, root, contentsChecks, bodyChecks, nodeChecks, useChecks, tableChecks, bookChecks, Accepted}
-use Rattle.logic.specs.Search.{FitsAt, totalOf, Outcome, searchRest, searchChecks, Searches}
+use Rattle.logic.specs.Strays.{nameChecks}
+use Rattle.logic.specs.Search.{FitsAt, totalOf, Outcome, roomChecks, searchRest, searchChecks, Searches}
 
 -- the refusals of c have numbers from k on
 unfoldable pub From : ℕ → Checks → Type 0
@@ -44,15 +44,21 @@ book-from s =
     (from-upto 10 (nodeChecks (varsOf s) (formulaOf s)) (λ i. (omega arith, (omega arith, tt))) (nodes (formulaOf s)))
     (from-upto 10 (useChecks (formulaOf s)) (λ i. (omega arith, tt)) (root (formulaOf s)))))
 
+rest-from : (s o : List ℕ) → From book-length (searchRest s o)
+unfolding From
+rest-from s o =
+    from-then 10 (upto (nameChecks (formulaOf s)) (varsOf s)) (roomChecks s o)
+    (from-upto 10 (nameChecks (formulaOf s)) (λ i. (omega arith, tt)) (varsOf s)) (omega arith, tt)
+
 -- what a search that is not refused says
 pub record Answered (s : List ℕ) (b : ℕ) (o : List ℕ) (a : Answer) : Type 0 where
   pub accepted : Accepted s
-  pub room : varsOf s + locsOf s ≤ length o
+  pub rest : Passes (searchRest s o)
   pub outcome : Outcome (FitsAt s) (totalOf s) b a
 
 pub searches-answered : (s : List ℕ) (b : ℕ) (o : List ℕ) (a : Answer) (o′ : List ℕ) → Searches s b o a o′ → a .number < book-length → Answered s b o a
-unfolding From Passes Accepted
+unfolding Accepted
 searches-answered s b o a o′ q l =
-    let r = answers-below 10 (searchChecks s o) (Outcome (FitsAt s) (totalOf s) b) a (from-then 10 (bookChecks s) (searchRest s o) (book-from s) (omega arith, tt)) (q .answer) l in
+    let r = answers-below 10 (searchChecks s o) (Outcome (FitsAt s) (totalOf s) b) a (from-then 10 (bookChecks s) (searchRest s o) (book-from s) (rest-from s o)) (q .answer) l in
     let p = then-passes (bookChecks s) (searchRest s o) (r .0) in
-    record { accepted = p .0; room = p .1 .0; outcome = r .1 }
+    record { accepted = p .0; rest = p .1; outcome = r .1 }

@@ -6,10 +6,11 @@ use Prim.Native.Nat.{ℕ, _+_, _-_, _<_, _≤_}
 use lib.ListN.{length, drop}
 use Rattle.logic.specs.declared.Answer.{Answer}
 use Rattle.logic.specs.Numbers.{yes-number, no-number, spent-number, output-length}
-use Rattle.logic.specs.Checks.{Checks, done, check, _then_, Answers}
+use Rattle.logic.specs.Checks.{Checks, done, check, _then_, upto, Answers}
 use Rattle.logic.specs.Formula.{Form}
 use Rattle.logic.specs.Tests.{heapOf}
-use Rattle.logic.specs.Book.{bookChecks, varsOf, locsOf, pathOf, bookFormula}
+use Rattle.logic.specs.Book.{bookChecks, varsOf, locsOf, pathOf, formulaOf, bookFormula}
+use Rattle.logic.specs.Strays.{nameChecks}
 use Rattle.logic.specs.Model.{Fits}
 use Rattle.logic.specs.Candidates.{total, stackOf, modelOf}
 
@@ -48,10 +49,13 @@ pub data Outcome (P : ℕ → Type 0) (t b : ℕ) (a : Answer) : Type 0 where
   none : None P t b → a ≡ searched no-number t → Outcome P t b a
   spent : ((k : ℕ) → ¬ Found P t b k) → ¬ None P t b → a ≡ searched spent-number b → Outcome P t b a
 
--- what a search asks of an accepted book and the output o: "20: output too short: under v+n bytes for a search, whatever it would
--- find"
+-- "20: output too short: under v+n bytes for a search, whatever it would find"
+abbrev pub roomChecks : List ℕ → List ℕ → Checks
+roomChecks s o = check (varsOf s + locsOf s ≤ length o) output-length 0 done
+
+-- what a search asks of an accepted book and the output o: "25 .. after 16 and before 20"
 abbrev pub searchRest : List ℕ → List ℕ → Checks
-searchRest s o = check (varsOf s + locsOf s ≤ length o) output-length 0 done
+searchRest s o = upto (nameChecks (formulaOf s)) (varsOf s) then roomChecks s o
 
 -- "Order: 10 to 13; then nodes upwards, ..; 16; then .. 20 (search)"
 abbrev pub searchChecks : List ℕ → List ℕ → Checks

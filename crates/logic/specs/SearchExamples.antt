@@ -8,13 +8,16 @@ use lib.Dec.{eqb}
 use lib.ListN.{length, drop}
 use Rattle.logic.specs.declared.Answer.{Answer}
 use Rattle.logic.specs.Tests.{andb, heapOf}
-use Rattle.logic.specs.Book.{varsOf, locsOf, Accepted}
-use Rattle.logic.specs.Computed.{accepted}
+use Rattle.logic.specs.Checks.{upto, Passes}
+use Rattle.logic.specs.CheckLaws.{passes-then}
+use Rattle.logic.specs.Strays.{nameChecks}
+use Rattle.logic.specs.Book.{varsOf, locsOf, formulaOf, Accepted}
+use Rattle.logic.specs.Computed.{accepted, allNamed}
 use Rattle.logic.specs.Reflect.{is-and, is-eq, is-self, false-true}
-use Rattle.logic.specs.ComputedLaws.{is-accepted}
+use Rattle.logic.specs.ComputedLaws.{is-accepted, is-all-named}
 use Rattle.logic.specs.Candidates.{stackOf, modelOf}
 use Rattle.logic.specs.CandidateLaws.{model-long}
-use Rattle.logic.specs.Search.{FitsAt, totalOf, searched, Searches}
+use Rattle.logic.specs.Search.{FitsAt, totalOf, searched, roomChecks, searchRest, Searches}
 use Rattle.logic.specs.Trials.{fitsAt, first, outcomeOf}
 use Rattle.logic.specs.SearchLaws.{outcome-single, outcome-worked-out, searches-outcome, is-fits-at}
 
@@ -32,7 +35,7 @@ SearchedRight w =
     (o : List ℕ) (a : Answer) (o′ : List ℕ) → varsOf (w .book) + locsOf (w .book) ≤ length o → Searches (w .book) (w .budget) o a o′
     → (a ≡ searched (w .number) (w .tried)) × (o′ ≡ w .model ++ drop (length (w .model)) o)
 
--- ---- the test of an example: the book is accepted, and the number, the tried count and the bytes are those that are worked out
+-- ---- the test of an example: the book is accepted, atoms name its variables, and the number, the tried count and the bytes are those that are worked out
 
 unfoldable pub sameBytes : List ℕ → List ℕ → Bool
 sameBytes [] [] = true
@@ -59,23 +62,27 @@ worked-out w = outcomeOf (totalOf (w .book)) (w .budget) (first (totalOf (w .boo
 
 unfoldable pub searchedTest : Searched → Bool
 searchedTest w =
-    andb (accepted (w .book))
+    andb (andb (accepted (w .book)) (allNamed (varsOf (w .book)) (formulaOf (w .book))))
     (andb (andb (eqb (worked-out w .number) (w .number)) (eqb (worked-out w .tried) (w .tried)))
     (sameBytes (written (w .book) (w .number) (w .tried)) (w .model)))
 
 module _ (w : Searched) (e : searchedTest w ≡ true) (o : List ℕ) (a : Answer) (o′ : List ℕ) (room : varsOf (w .book) + locsOf (w .book) ≤ length o) (q : Searches (w .book) (w .budget) o a o′) where
-  parts : Accepted (w .book) × (((worked-out w .number ≡ w .number) × (worked-out w .tried ≡ w .tried)) × (sameBytes (written (w .book) (w .number) (w .tried)) (w .model) ≡ true))
+  parts : (Accepted (w .book) × Passes (upto (nameChecks (formulaOf (w .book))) (varsOf (w .book)))) × (((worked-out w .number ≡ w .number) × (worked-out w .tried ≡ w .tried)) × (sameBytes (written (w .book) (w .number) (w .tried)) (w .model) ≡ true))
   unfolding searchedTest
   parts =
-      is-and _ _ (is-accepted (w .book))
+      is-and _ _ (is-and _ _ (is-accepted (w .book)) (is-all-named (varsOf (w .book)) (formulaOf (w .book))))
       (is-and _ _ (is-and _ _ (is-eq (worked-out w .number) (w .number)) (is-eq (worked-out w .tried) (w .tried)))
       (is-self (sameBytes (written (w .book) (w .number) (w .tried)) (w .model)))) .to e
+
+  rest-passes : Passes (searchRest (w .book) o)
+  unfolding Passes
+  rest-passes = passes-then (upto (nameChecks (formulaOf (w .book))) (varsOf (w .book))) (roomChecks (w .book) o) (parts .0 .1) (room, tt)
 
   answer-is : a ≡ searched (w .number) (w .tried)
   unfolding worked-out outcomeOf
   answer-is =
       outcome-single (FitsAt (w .book)) (totalOf (w .book)) (w .budget) a (worked-out w)
-      (searches-outcome (w .book) (w .budget) o a o′ (parts .0) room q)
+      (searches-outcome (w .book) (w .budget) o a o′ (parts .0 .0) rest-passes q)
       (outcome-worked-out (FitsAt (w .book)) (fitsAt (w .book)) (is-fits-at (w .book)) (totalOf (w .book)) (w .budget))
       ∙ ap₂ searched (parts .1 .0 .0) (parts .1 .0 .1)
 

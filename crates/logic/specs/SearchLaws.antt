@@ -3,7 +3,7 @@
 use mathlib.Core.Path.{_≡_, refl, sym, _∙_, ap}
 use mathlib.Core.Bool.{Bool, true, false}
 use mathlib.Core.List.{List, _++_}
-use mathlib.Core.Logic.{inl, inr, ⊎-elim}
+use mathlib.Core.Logic.{inl, ⊎-elim}
 use Prim.Native.Nat.{ℕ, zero, suc, _+_, _-_, _<_, _≤_}
 use native.Mathlib.Nat.{not-suc-le-zero, eq-or-lt-of-le, le-of-suc-le-suc}
 use native.Mathlib.Decide.{decLt, decLe, ℕ-discrete}
@@ -13,16 +13,17 @@ use lib.ListN.{length, drop}
 use borrow.Author.Tests.{lt-ltb, le-ltb, le-leb, lt-leb}
 use Rattle.logic.specs.declared.Answer.{Answer}
 use Rattle.logic.specs.Numbers.{answer, yes-number, no-number, spent-number, output-length}
-use Rattle.logic.specs.Checks.{Passes, Answers}
-use Rattle.logic.specs.CheckLaws.{Single, answers-single, answers-refused, answers-after, answers-rest, passes-then}
+use Rattle.logic.specs.Checks.{upto, Passes, Answers}
+use Rattle.logic.specs.CheckLaws.{Single, Yes, answers-single, answers-refused, answers-other, answers-after, answers-passed, answers-rest, passes-then}
 use Rattle.logic.specs.Tests.{pick, heapOf}
 use Rattle.logic.specs.Reflect.{Is, fails}
 use Rattle.logic.specs.Agree.{heapOf-heap}
 use Rattle.logic.specs.TruthHolds.{truth-holds}
-use Rattle.logic.specs.Book.{bookFormula, bookChecks, varsOf, locsOf, pathOf, Reads, Accepted}
+use Rattle.logic.specs.Book.{formulaOf, bookFormula, bookChecks, varsOf, locsOf, pathOf, Reads, Accepted}
 use Rattle.logic.specs.Candidates.{stackOf, modelOf}
 use Rattle.logic.specs.CandidateLaws.{stackOf-stack}
-use Rattle.logic.specs.Search.{FitsAt, totalOf, Lowest, searched, Outcome, found, none, spent, searchRest, searchChecks, Searches}
+use Rattle.logic.specs.Search.{FitsAt, totalOf, Lowest, searched, Outcome, found, none, spent, roomChecks, searchRest, searchChecks, Searches}
+use Rattle.logic.specs.Strays.{nameChecks}
 use Rattle.logic.specs.Trials.{fitsAt, first, outcomeOf}
 
 -- ---- one answer and one output
@@ -82,19 +83,28 @@ module _ (s : List ℕ) (b : ℕ) (o : List ℕ) where
       }
 
   module _ (ok : Accepted s) where
-    pub searches-short : length o < varsOf s + locsOf s → Searches s b o (answer output-length 0) o
-    unfolding Accepted Answers
-    searches-short l =
+    -- a stray variable, or too short an output
+    pub searches-rest : (a : Answer) → Answers (searchRest s o) Yes a → ¬ (a .number ≡ 0) → Searches s b o a o
+    unfolding Accepted
+    searches-rest a q f =
         record {
-          answer = answers-after (bookChecks s) (searchRest s o) (Outcome (FitsAt s) (totalOf s) b) (answer output-length 0) ok (inl (λ w. absurd (omega arith), refl));
-          wrote = λ e. absurd (omega arith);
+          answer = answers-after (bookChecks s) (searchRest s o) (Outcome (FitsAt s) (totalOf s) b) a ok (answers-other (searchRest s o) (Outcome (FitsAt s) (totalOf s) b) a q f);
+          wrote = λ e. absurd (f e);
           kept = λ e. refl;
         }
 
-    module _ (room : varsOf s + locsOf s ≤ length o) (a : Answer) (q : Outcome (FitsAt s) (totalOf s) b a) where
+    -- "whatever it would find"
+    pub searches-short : Passes (upto (nameChecks (formulaOf s)) (varsOf s)) → length o < varsOf s + locsOf s → Searches s b o (answer output-length 0) o
+    unfolding Answers
+    searches-short named l =
+        searches-rest (answer output-length 0)
+        (answers-after (upto (nameChecks (formulaOf s)) (varsOf s)) (roomChecks s o) Yes (answer output-length 0) named (inl (λ w. absurd (omega arith), refl))) (λ e. absurd (omega arith))
+
+    module _ (rest : Passes (searchRest s o)) (a : Answer) (q : Outcome (FitsAt s) (totalOf s) b a) where
       pub outcome-answers : Answers (searchChecks s o) (Outcome (FitsAt s) (totalOf s) b) a
-      unfolding Accepted Answers
-      outcome-answers = answers-after (bookChecks s) (searchRest s o) (Outcome (FitsAt s) (totalOf s) b) a ok (inr (room, q))
+      unfolding Accepted
+      outcome-answers =
+          answers-after (bookChecks s) (searchRest s o) (Outcome (FitsAt s) (totalOf s) b) a ok (answers-passed (searchRest s o) (Outcome (FitsAt s) (totalOf s) b) a rest q)
 
       pub searches-wrote : (o′ : List ℕ) → a .number ≡ yes-number → o′ ≡ modelOf (varsOf s) (locsOf s) (a .tried - 1) ++ drop (varsOf s + locsOf s) o → Searches s b o a o′
       searches-wrote o′ e w = record { answer = outcome-answers; wrote = λ _. w; kept = λ f. absurd (f e) }
@@ -102,12 +112,11 @@ module _ (s : List ℕ) (b : ℕ) (o : List ℕ) where
       pub searches-kept : ¬ (a .number ≡ yes-number) → Searches s b o a o
       searches-kept f = record { answer = outcome-answers; wrote = λ e. absurd (f e); kept = λ _. refl }
 
-  -- what a search of an accepted book says, where there is room
-  pub searches-outcome : (a : Answer) (o′ : List ℕ) → Accepted s → varsOf s + locsOf s ≤ length o → Searches s b o a o′ → Outcome (FitsAt s) (totalOf s) b a
-  unfolding Accepted Passes
-  searches-outcome a o′ ok room q =
-      answers-rest (searchChecks s o) (Outcome (FitsAt s) (totalOf s) b) a
-      (passes-then (bookChecks s) (searchRest s o) ok (room, tt)) (q .answer)
+  -- what a search of an accepted book says, where atoms name its variables and there is room
+  pub searches-outcome : (a : Answer) (o′ : List ℕ) → Accepted s → Passes (searchRest s o) → Searches s b o a o′ → Outcome (FitsAt s) (totalOf s) b a
+  unfolding Accepted
+  searches-outcome a o′ ok rest q =
+      answers-rest (searchChecks s o) (Outcome (FitsAt s) (totalOf s) b) a (passes-then (bookChecks s) (searchRest s o) ok rest) (q .answer)
 
 -- ---- the search, worked out
 

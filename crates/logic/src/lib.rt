@@ -53,3 +53,5 @@ pub const ASSIGNMENT_VALUE: u64 = 22;
 pub const ENTRY_KIND: u64 = 23;
 
 pub const ENTRY_STRETCH: u64 = 24;
+
+pub const STRAY_VARIABLE: u64 = 25;

@@ -5,14 +5,17 @@ use Prim.Native.Nat.{ℕ, suc, _+_, _-_, _<_, _≤_}
 use native.Mathlib.Omega.{arith}
 use lib.ListN.{length, getD, drop}
 use Rattle.logic.specs.declared.Answer.{Answer}
-use Rattle.logic.specs.Numbers.{answer, yes-number, output-length}
+use Rattle.logic.specs.Numbers.{yes-number, output-length}
+use Rattle.logic.specs.Checks.{Checks, done, check, _then_, upto, Passes, Answers}
+use Rattle.logic.specs.CheckLaws.{Yes, Refuses, refuses-upto, passes-of-yes, passes-then, then-passes, answers-refused, answers-after}
 use Rattle.logic.specs.Formula.{Form}
 use Rattle.logic.specs.Table.{Sound, tree}
-use Rattle.logic.specs.Book.{most, varsOf, locsOf, nodes, root, Known, Bodies}
+use Rattle.logic.specs.Book.{most, varsOf, locsOf, formulaOf, nodes, root, Known, Bodies}
 use Rattle.logic.specs.OpenLaws.{vars-low, locs-low, known}
 use Rattle.logic.specs.Candidates.{modelBytes}
-use Rattle.logic.specs.Search.{CandidateFits, FitsAt, Searches}
-use Rattle.logic.specs.SearchLaws.{searches-short, searches-wrote, searches-kept}
+use Rattle.logic.specs.Strays.{nameChecks}
+use Rattle.logic.specs.Search.{CandidateFits, FitsAt, roomChecks, searchRest, Searches}
+use Rattle.logic.specs.SearchLaws.{searches-rest, searches-wrote, searches-kept}
 use Rattle.cells.specs.Cells.{most as mostPacked, cells}
 use Rattle.judge.specs.Setting.{room}
 use Rattle.packing.specs.SameTable.{same-tree, same-sound}
@@ -38,17 +41,41 @@ module _ (s f : List ℕ) (v n p : ℕ) (q : Bodies s f v n p) (budget : ℕ) (o
   pub usable : Known v f × (v ≤ most) × (n ≤ most)
   usable = (known s f v n p q, vars-low s f v n p q, locs-low s f v n p q)
 
-  pub answer-short : length o < v + n → Searches s budget o (answer output-length 0) o
-  answer-short l = searches-short s budget o (q .accepted) (omega (arith, q .vars, q .locs))
+  abbrev spaceChecks : Checks
+  spaceChecks = check (v + n ≤ length o) output-length 0 done
 
-  module _ (space : v + n ≤ length o) (a : Answer) (c : Candidate) (h : Hunted v n (CandidateFits v n p (tree f (root f))) budget a c) where
+  same-rest : upto (nameChecks f) v then spaceChecks ≡ searchRest s o
+  same-rest = rw (q .vars, q .locs, q .formula)
+
+  -- a stray variable
+  pub answer-stray : (a : Answer) → Answers (upto (nameChecks f) v) Yes a → ¬ (a .number ≡ yes-number) → Searches s budget o a o
+  answer-stray a r w =
+      searches-rest s budget o (q .accepted) a (subst (λ (c : Checks). Answers c Yes a) same-rest (answers-refused (upto (nameChecks f) v) Yes spaceChecks a r w)) w
+
+  module _ (a : Answer) (r : Answers (upto (nameChecks f) v) Yes a) (z : a .number ≡ yes-number) where
+    names-pass : Passes (upto (nameChecks f) v)
+    unfolding Refuses
+    names-pass = passes-of-yes (upto (nameChecks f) v) a (refuses-upto (nameChecks f) (λ i. (omega arith, tt)) v) r z
+
+    -- an output that is too short
+    pub answer-short : (b : Answer) → Answers spaceChecks Yes b → ¬ (b .number ≡ yes-number) → Searches s budget o b o
+    answer-short b t w =
+        searches-rest s budget o (q .accepted) b (subst (λ (c : Checks). Answers c Yes b) same-rest (answers-after (upto (nameChecks f) v) spaceChecks Yes b names-pass t)) w
+
+    pub rest-passes : (b : Answer) → Answers spaceChecks Yes b → b .number ≡ yes-number → Passes (searchRest s o)
+    unfolding Refuses
+    rest-passes b t y =
+        subst Passes same-rest (passes-then (upto (nameChecks f) v) spaceChecks names-pass (passes-of-yes spaceChecks b (omega arith, tt) t y))
+
+  module _ (rest : Passes (searchRest s o)) (a : Answer) (c : Candidate) (h : Hunted v n (CandidateFits v n p (tree f (root f))) budget a c) where
     of-book : Hunted (varsOf s) (locsOf s) (FitsAt s) budget a c
     of-book =
         let same : Hunted v n (CandidateFits v n p (tree f (root f))) budget a c ≡ Hunted (varsOf s) (locsOf s) (FitsAt s) budget a c = rw (q .vars, q .locs, q .path, q .formula) in
         subst (λ (P : Type 0). P) same h
 
     space-is : varsOf s + locsOf s ≤ length o
-    space-is = omega (arith, q .vars, q .locs)
+    unfolding Passes
+    space-is = then-passes (upto (nameChecks (formulaOf s)) (varsOf s)) (roomChecks s o) rest .1 .0
 
     -- the model is in range, and there is room for it
     pub write-ready : a .number ≡ yes-number → WithinBounds c × (c .vars + c .locs ≤ length o)
@@ -59,9 +86,9 @@ module _ (s f : List ℕ) (v n p : ℕ) (q : Bodies s f v n p) (budget : ℕ) (o
     pub answer-wrote : (o′ : List ℕ) → a .number ≡ yes-number → o′ ≡ modelBytes (c .vars) (c .locs) (cells (c .stack)) (cells (c .heap)) ++ drop (c .vars + c .locs) o → Searches s budget o a o′
     answer-wrote o′ e w =
         let k = of-book .at e in
-        searches-wrote s budget o (q .accepted) space-is a (of-book .outcome) o′ e
+        searches-wrote s budget o (q .accepted) rest a (of-book .outcome) o′ e
         (w ∙ ap₂ (λ (x y : ℕ). modelBytes x y (cells (c .stack)) (cells (c .heap)) ++ drop (x + y) o) (k .vars) (k .locs)
         ∙ ap (λ (m : List ℕ). m ++ drop (varsOf s + locsOf s) o) (at-model (varsOf s) (locsOf s) (a .tried - 1) c k))
 
     pub answer-kept : ¬ (a .number ≡ yes-number) → Searches s budget o a o
-    answer-kept e = searches-kept s budget o (q .accepted) space-is a (of-book .outcome) e
+    answer-kept e = searches-kept s budget o (q .accepted) rest a (of-book .outcome) e

@@ -6,7 +6,11 @@ use hunt::hunt;
 use leaves::answer_of;
 use logic::Answer;
 use packing::table_of;
-ghost use Prim.Native.Nat.{_≤_};
+use strays::named;
+ghost use Prim.Native.Nat.{_+_, _≤_};
+ghost use Rattle.logic.specs.Numbers.{output-length};
+ghost use Rattle.logic.specs.Checks.{Answers, check, done};
+ghost use Rattle.logic.specs.CheckLaws.{Yes};
 ghost use Rattle.logic.specs.Table.{tree};
 ghost use Rattle.logic.specs.Book.{most, root, Known};
 ghost use Rattle.logic.specs.Search.{CandidateFits, Searches};
@@ -19,6 +23,17 @@ fn hunt_in(f: &[u8], v: u64, n: u64, p: u64, budget: u64) -> Ended
 {
     let t = table_of(f);
     hunt(&t, f.len() / 3 - 1, v, n, p, budget)
+}
+
+// Whether an output of that many bytes has room for a model.
+fn room(v: u64, n: u64, space: usize) -> Answer
+    requires { ⌜ (v ≤ most) × (n ≤ most) ⌝ }
+    ensures { λ r. ⌜ Answers (check (v + n ≤ space) output-length 0 done) Yes r ⌝ }
+{
+    if (space as u64) < v + n {
+        return answer_of(logic::OUTPUT_LENGTH, 0);
+    }
+    answer_of(logic::YES, 0)
 }
 
 // Searches the book for a model, with at most that many candidates tried. A model that is found goes to the front of the
@@ -34,9 +49,13 @@ pub fn search(book: &[u8], budget: u64, out: &mut [u8]) -> Answer
     let f = part(book, 1);
     let v = opened.v;
     let n = opened.n;
-    let space = out.len() as u64;
-    if space < v + n {
-        return answer_of(logic::OUTPUT_LENGTH, 0);
+    let names = named(f, v);
+    let space = room(v, n, out.len());
+    if names.number != logic::YES {
+        return names;
+    }
+    if space.number != logic::YES {
+        return space;
     }
     let r = hunt_in(f, v, n, opened.p, budget);
     let answer = r.answer;

@@ -3,17 +3,15 @@
 //
 // For a fixed stack it works out, node after node from the first, the set of all heaps that fit the node: an atom's heaps are
 // looked at one by one, a connective's come from its children's sets. No heap is taken apart, and of the bench only the cast
-// `wide` and the size of a table are used. Stacks and heaps are numbers, a digit for each variable (base n + 1) or location
+// `wide` and the number of nodes are used. Stacks and heaps are numbers, a digit for each variable (base n + 1) or location
 // (base n + 2); two strongly disjoint heaps together have the sum of their numbers. Three variables and three locations at the
 // most.
 use leaves::wide;
-use logic::TABLE;
+use logic::NODES;
 ghost use Prim.Native.Nat.{_≤_};
 
 // As many as there are heaps over three locations; a set of heaps takes one byte for each.
 const HEAPS: usize = 125;
-
-const NODES: usize = TABLE / 3;
 
 // The sets of all nodes, one after the other.
 pub const ROOM: usize = HEAPS * NODES;
@@ -36,6 +34,31 @@ pub struct World {
 // Whether the second judge can judge within these bounds v n p.
 pub fn can_judge(bounds: [u8; 3]) -> bool {
     bounds[0] <= 3 && bounds[1] <= 3
+}
+
+// Whether an atom of the formula f names the variable x.
+fn is_named(f: &[u8], x: u8) -> bool {
+    for k in 0..f.len() / 3 {
+        if f[3 * k] <= 4 {
+            if f[3 * k + 1] == x {
+                return true;
+            }
+            if f[3 * k + 2] == x {
+                return true;
+            }
+        }
+    }
+    false
+}
+
+// The lowest of the variables 1 to v that no atom of the formula f names, or 0.
+pub fn stray(f: &[u8], v: u8) -> u8 {
+    for x in 1..=v {
+        if !is_named(f, x) {
+            return x;
+        }
+    }
+    0
 }
 
 // What is left of x above its k lowest digits.

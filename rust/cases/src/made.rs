@@ -37,6 +37,18 @@ pub fn tree(random: &mut Random, v: u8, count: usize, operators: &[u8]) -> Vec<[
     nodes
 }
 
+/// Puts variables 1 to v into operands of the atoms, chosen at random, so that each is named. Gives
+/// v, or as many variables as there are such operands.
+pub fn name_all(random: &mut Random, nodes: &mut [[u8; 3]], v: u8) -> u8 {
+    let atoms = nodes.iter_mut().filter(|node| children(node[0]) == 0);
+    let mut operands: Vec<&mut u8> = atoms.flat_map(|[_, a, b]| [a, b]).collect();
+    let v = v.min(operands.len() as u8);
+    for variable in 1..=v {
+        *operands.swap_remove(random.below(operands.len())) = variable;
+    }
+    v
+}
+
 fn children(operator: u8) -> usize {
     match operator {
         1..=4 => 0,

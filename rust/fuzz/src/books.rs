@@ -1,7 +1,7 @@
 //! Books: any bytes, made ones, those of the case files, and damaged ones of both.
 
 use cases::line;
-use cases::made::{self, tree};
+use cases::made::{self, name_all, tree};
 use cases::random::Random;
 use second::book::{Book, BOUNDS, CONTENTS, MOST, MOST_NODES};
 
@@ -49,13 +49,18 @@ impl Books {
     }
 }
 
-/// A book that is accepted, at bounds that are small more often than not.
+/// A book that is accepted, at bounds that are small more often than not. Most name every variable:
+/// the search refuses the others.
 fn made(random: &mut Random) -> Vec<u8> {
     let most = random.one_of(&[1, 2, 2, 3, 3, MOST as u8]);
-    let bounds = [(); 3].map(|()| random.up_to(most));
+    let mut bounds = [(); 3].map(|()| random.up_to(most));
     let most_nodes = random.one_of(&[3, 8, 8, 16, MOST_NODES]);
     let count = 1 + random.below(most_nodes);
-    made::book(bounds, &tree(random, bounds[0], count, &OPERATORS))
+    let mut nodes = tree(random, bounds[0], count, &OPERATORS);
+    if random.below(8) > 0 {
+        bounds[0] = name_all(random, &mut nodes, bounds[0]);
+    }
+    made::book(bounds, &nodes)
 }
 
 /// A book that is accepted but for one byte of its contents.

@@ -13,7 +13,7 @@ pub enum Call {
 }
 
 /// One more than the highest number.
-const NUMBERS: usize = 25;
+const NUMBERS: usize = 26;
 
 /// Counts by number and call.
 #[derive(Default)]

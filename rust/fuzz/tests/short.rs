@@ -1,4 +1,5 @@
-//! A short run: no difference, and every call gives every number that it can give, and no other.
+//! A short run: no difference; every call gives every number that it can give, and no other; and few
+//! searches end at a stray variable.
 
 use std::process::Command;
 
@@ -9,7 +10,7 @@ const BOOK: [u64; 9] = [10, 11, 12, 13, 14, 15, 16, 23, 24];
 const CALLS: [(&str, &[u64]); 5] = [
     ("read", &[0]),
     ("judge", &[0, 1, 17, 18]),
-    ("search", &[0, 1, 2, 20]),
+    ("search", &[0, 1, 2, 20, 25]),
     ("encode", &[0, 19, 20]),
     ("assign", &[0, 1, 19, 21, 22]),
 ];
@@ -29,13 +30,18 @@ fn no_difference() {
     });
     let rows: Vec<Vec<u64>> = rows.collect();
     let numbers: Vec<u64> = rows.iter().map(|row| row[0]).collect();
-    assert_eq!(numbers, (0..=2).chain(10..=24).collect::<Vec<_>>());
-    for row in rows {
+    assert_eq!(numbers, (0..=2).chain(10..=25).collect::<Vec<_>>());
+    for row in &rows {
         for ((call, others), &count) in CALLS.iter().zip(&row[1..]) {
             let gives = BOOK.contains(&row[0]) || others.contains(&row[0]);
             assert_eq!(count > 0, gives, "{call} gives {} {count} times", row[0]);
         }
     }
+    let searches = |numbers: &[u64]| -> u64 {
+        let rows = rows.iter().filter(|row| numbers.contains(&row[0]));
+        rows.map(|row| row[3]).sum()
+    };
+    assert!(searches(&[0, 1, 2]) > 5 * searches(&[25]));
 }
 
 #[test]

@@ -121,6 +121,28 @@ impl Book {
     pub fn formula(&self) -> &Formula {
         &self.formula
     }
+
+    /// The declared variables that no atom names, upwards. Their locations are named all the same,
+    /// so two parts may meet there, and the search refuses the book.
+    ///
+    /// ```
+    /// use hollyspool::{search, Book, Formula, Refusal};
+    ///
+    /// let cell = Formula::Points(1, 1);
+    /// let book = Book::new(2, 1, 1, &cell)?;
+    /// assert_eq!(book.stray(), [2]);
+    /// let refused = search(book.bytes(), 6, &mut [0; 3]).settled();
+    /// assert_eq!(refused, Err(Refusal::StrayVariable { variable: 2 }));
+    ///
+    /// let named = Book::new(2, 1, 1, &cell.star(Formula::Equal(2, 2)))?;
+    /// assert!(named.stray().is_empty());
+    /// # Ok::<(), hollyspool::Unwritable>(())
+    /// ```
+    pub fn stray(&self) -> Vec<u8> {
+        (1..=self.bounds.v)
+            .filter(|&variable| !self.formula.names(variable))
+            .collect()
+    }
 }
 
 /// Appends a formula's nodes, its root last, and gives the root's number.

@@ -47,7 +47,8 @@ pub fn judge(book: &[u8], model: &[u8]) -> Answer {
 }
 
 /// Looks for the lowest candidate that fits, and writes it if its number is below the budget. The
-/// output needs v + n bytes; the rest of it stays as it was.
+/// output needs v + n bytes; the rest of it stays as it was. Alone of all calls it refuses a book
+/// with a declared variable that no atom names ([`Book::stray`](crate::Book::stray)).
 ///
 /// ```
 /// let p1 = [2, 1, 11, 0, 3, 0, 2, 14, 0, 3, 0, 1, 1, 1, 3, 1, 1];

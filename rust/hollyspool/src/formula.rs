@@ -106,6 +106,30 @@ impl Formula {
         }
     }
 
+    /// Whether an atom of it names the variable.
+    ///
+    /// ```
+    /// use hollyspool::Formula;
+    ///
+    /// let formula = Formula::Points(1, 3).negated();
+    /// assert!(formula.names(3));
+    /// assert!(!formula.names(2));
+    /// ```
+    pub fn names(&self, variable: u8) -> bool {
+        match self {
+            Formula::Equal(x, y)
+            | Formula::Differ(x, y)
+            | Formula::Points(x, y)
+            | Formula::List(x, y) => [*x, *y].contains(&variable),
+            Formula::Not(a) => a.names(variable),
+            Formula::And(a, b)
+            | Formula::Or(a, b)
+            | Formula::AndNot(a, b)
+            | Formula::Star(a, b)
+            | Formula::Septraction(a, b) => a.names(variable) || b.names(variable),
+        }
+    }
+
     /// Whether a sign stands between two formulas.
     fn joins(&self) -> bool {
         matches!(self.operator(), 5..=7 | 9 | 10)

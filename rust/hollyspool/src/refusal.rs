@@ -1,11 +1,12 @@
-//! The refusals: what each number from 10 to 24 means.
+//! The refusals: what each number from 10 to 25 means.
 
 use std::error::Error;
 use std::fmt;
 
 use crate::answer::Answer;
 
-/// Why a call refused its input, with the entry, node or byte that the answer's place names.
+/// Why a call refused its input, with the entry, node, byte or variable that the answer's place
+/// names.
 ///
 /// ```
 /// let answer = hollyspool::read(&[2, 1, 11]);
@@ -67,10 +68,15 @@ pub enum Refusal {
         /// The entry, 0 or 1.
         entry: u64,
     },
+    /// 25: a declared variable that no atom names; only the search refuses it.
+    StrayVariable {
+        /// The lowest such variable.
+        variable: u64,
+    },
 }
 
 impl Refusal {
-    /// The refusal behind an answer; none if its number is not 10 to 24.
+    /// The refusal behind an answer; none if its number is not 10 to 25.
     pub fn of(answer: Answer) -> Option<Refusal> {
         let place = answer.place;
         Some(match answer.number {
@@ -89,6 +95,7 @@ impl Refusal {
             22 => Refusal::AssignmentValue { byte: place },
             23 => Refusal::EntryKind { entry: place },
             24 => Refusal::EntryStretch { entry: place },
+            25 => Refusal::StrayVariable { variable: place },
             _ => return None,
         })
     }
@@ -111,6 +118,7 @@ impl Refusal {
             Refusal::AssignmentValue { .. } => 22,
             Refusal::EntryKind { .. } => 23,
             Refusal::EntryStretch { .. } => 24,
+            Refusal::StrayVariable { .. } => 25,
         }
     }
 }
@@ -153,6 +161,9 @@ impl fmt::Display for Refusal {
             Refusal::EntryKind { entry } => write!(f, "entry {entry} has a wrong kind"),
             Refusal::EntryStretch { entry } => {
                 write!(f, "entry {entry} has a wrong offset or length")
+            }
+            Refusal::StrayVariable { variable } => {
+                write!(f, "x{variable} is declared, but no atom names it")
             }
         }
     }

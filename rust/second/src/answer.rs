@@ -41,6 +41,8 @@ pub enum Number {
     EntryKind = 23,
     /// An entry with a wrong offset or length.
     EntryStretch = 24,
+    /// A declared variable that no atom names.
+    StrayVariable = 25,
 }
 
 /// The answer of every call.

@@ -1,4 +1,4 @@
-//! Document 01, "Candidates and budget": the search.
+//! Document 01, "Candidates and budget": the search; and document 02, [3]: the books it refuses.
 
 use crate::answer::{settled, Answer, Number};
 use crate::book::{Book, Bounds};
@@ -13,6 +13,9 @@ pub fn search(book: &[u8], budget: u64, out: &mut [u8]) -> Answer {
 
 fn searched(book: &[u8], budget: u64, out: &mut [u8]) -> Result<Answer, Answer> {
     let book = Book::accept(book)?;
+    if let Some(variable) = stray(&book) {
+        return Err(Answer::at(Number::StrayVariable, variable));
+    }
     let Bounds { v, n, .. } = book.bounds;
     let out = out
         .get_mut(..v + n)
@@ -27,6 +30,13 @@ fn searched(book: &[u8], budget: u64, out: &mut [u8]) -> Result<Answer, Answer> 
         None if tried == total => Answer::tried(Number::No, tried),
         None => Answer::tried(Number::Spent, tried),
     })
+}
+
+/// The lowest declared variable that no atom names. Operands of connectives are nodes.
+fn stray(book: &Book) -> Option<usize> {
+    let atoms = || book.nodes.iter().filter(|node| node[0] <= 4);
+    (1..=book.bounds.v)
+        .find(|&variable| !atoms().any(|&[_, a, b]| [a, b].map(usize::from).contains(&variable)))
 }
 
 /// The first candidate that fits among the first `limit`, and how many were tried.

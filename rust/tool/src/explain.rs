@@ -23,11 +23,22 @@ fn accepted(book: &Book) -> String {
     };
     format!(
         "formula  {}\nnodes    {}\nbounds   v = {v}, n = {n}, p = {p}\n\
-         T        {} candidates\nrows     {rows}\n",
+         T        {} candidates\nrows     {rows}\n{}",
         book.formula(),
         book.formula().nodes(),
         book.bounds().candidates(),
+        stray(book),
     )
+}
+
+/// A line on the declared variables that no atom names, if there are any.
+fn stray(book: &Book) -> String {
+    let names: Vec<String> = book.stray().iter().map(|x| format!("x{x}")).collect();
+    if names.is_empty() {
+        return String::new();
+    }
+    let names = names.join(", ");
+    format!("stray    {names}: declared, but named by no atom; search refuses the book\n")
 }
 
 fn accepted_in_json(book: &Book) -> String {
@@ -38,7 +49,8 @@ fn accepted_in_json(book: &Book) -> String {
         .number("v", v.into())
         .number("n", n.into())
         .number("p", p.into())
-        .number("total", book.bounds().candidates());
+        .number("total", book.bounds().candidates())
+        .numbers("stray", book.stray().into_iter().map(Some));
     match encode::count(book.bytes()) {
         Some(rows) => object.number("rows", rows as u64).line(),
         None => object.line(),

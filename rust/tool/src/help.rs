@@ -50,7 +50,7 @@ hollyspool search FILE [--budget N] [--json]
 
 Tries the candidates in their order, the first N of them or all, and prints the lowest that fits.
 \"None\" speaks of the book's bounds: no model with v variables, n locations and lists of at most p
-links fits.
+links fits. A book with a declared variable that no atom names is refused.
 
 A search that takes over a second reports on standard error. The search itself is one proved call
 and can't be looked into, so while it runs the candidates a second are measured on the side, by a
@@ -82,9 +82,10 @@ then one byte for each set (bit 0 for location 1). Encode says which arrays and 
 const EXPLAIN: &str = "\
 hollyspool explain FILE [--json]
 
-Prints the formula in readable notation, the bounds, T (the number of candidates) and the number of
-rows of the encoding. For a book that is refused: the number, what it means, the byte that it points
-at, what stands there and what should.
+Prints the formula in readable notation, the bounds, T (the number of candidates), the number of
+rows of the encoding, and stray variables if there are any: variables from 1 to v that no atom
+names. The book is accepted all the same, but search refuses it. For a book that is refused: the
+number, what it means, the byte that it points at, what stands there and what should.
 ";
 
 const DRAW: &str = "\

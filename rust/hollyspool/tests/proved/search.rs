@@ -1,7 +1,7 @@
 //! The search: the case lines, all small books around the ends of their budgets, random books.
 
 use cases::line::{about, Call, Outcome};
-use cases::made::{book, small, tame, tree};
+use cases::made::{book, name_all, small, tame, tree};
 use cases::random::Random;
 use second::book::Bounds;
 use second::candidate::count;
@@ -43,8 +43,7 @@ fn every_small_book() {
 fn random_books() {
     let mut random = Random::new(0x5EA);
     for round in 0..3_000 {
-        let bounds = [(); 3].map(|()| random.up_to(MOST));
-        let mut nodes = tree(&mut random, bounds[0], 1 + round % 64, &OPERATORS);
+        let (bounds, mut nodes) = made(&mut random, 1 + round % 64, &OPERATORS);
         let most = random.one_of(&[100, 10_000, 600_000]);
         let visits = tame(&mut nodes, bounds[1], most);
         let limit = (VISITS / visits).clamp(1, 200_000);
@@ -58,21 +57,26 @@ fn random_books() {
     }
 }
 
-/// Whatever would be found, under v + n bytes is too short.
+/// Whatever would be found, under v + n bytes is too short; a stray variable comes before.
 #[test]
 fn short_outputs() {
     let mut random = Random::new(0x5807);
-    for _ in 0..20_000 {
-        let bounds = [(); 3].map(|()| random.up_to(MOST));
+    for round in 0..20_000 {
+        let (bounds, nodes) = made(&mut random, 1 + round % 8, &[1, 2, 3, 4, 5, 6, 8]);
         let budget = random.one_of(&[0, 1, 2, 100]);
         let room = random.below(2 * usize::from(MOST) + 4);
-        let node = [
-            1 + random.up_to(3),
-            random.up_to(bounds[0]),
-            random.up_to(bounds[0]),
-        ];
-        same_search(&book(bounds, &[node]), budget, room);
+        same_search(&book(bounds, &nodes), budget, room);
     }
+}
+
+/// Bounds and a tree whose atoms name every variable, but for some with stray ones.
+fn made(random: &mut Random, count: usize, operators: &[u8]) -> ([u8; 3], Vec<[u8; 3]>) {
+    let mut bounds = [(); 3].map(|()| random.up_to(MOST));
+    let mut nodes = tree(random, bounds[0], count, operators);
+    if random.below(8) > 0 {
+        bounds[0] = name_all(random, &mut nodes, bounds[0]);
+    }
+    (bounds, nodes)
 }
 
 /// Compares two searches and every byte of their outputs.
@@ -83,12 +87,12 @@ fn same_search(book: &[u8], budget: u64, room: usize) {
     assert_eq!((answer, out), (second, expected), "{budget} for {book:?}");
 }
 
-/// Budgets around the first fit and around T, each once.
+/// Budgets around the first fit (0 where the book is refused) and around T, each once.
 fn budgets(first: u64, total: u64) -> Vec<u64> {
     let mut budgets = vec![
         0,
         1,
-        first - 1,
+        first.saturating_sub(1),
         first,
         first + 1,
         total - 1,

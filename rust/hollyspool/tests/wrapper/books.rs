@@ -4,7 +4,7 @@ use std::collections::BTreeMap;
 
 use cases::made::{book, small, tree};
 use cases::random::Random;
-use hollyspool::{Book, Formula, Unwritable, MOST_NODES, NIL};
+use hollyspool::{search, Book, Formula, Refusal, Unwritable, Verdict, MOST_NODES, NIL};
 
 const OPERATORS: [u8; 10] = [1, 2, 3, 4, 5, 6, 7, 8, 9, 10];
 
@@ -22,6 +22,25 @@ fn there_and_back() {
         let written = Book::new(v, n, p, accepted.formula()).expect("it can be written");
         assert_eq!(written.bounds(), accepted.bounds());
         assert_eq!(Book::accept(written.bytes()), Ok(written));
+    }
+}
+
+/// The lowest variable that a book lists as stray is the one that the search names.
+#[test]
+fn stray_as_the_search_says() {
+    let mut random = Random::new(0x57A1);
+    for round in 0..20_000 {
+        let [v, n, p] = [(); 3].map(|()| random.up_to(6));
+        let nodes = tree(&mut random, v, 1 + round % 16, &OPERATORS);
+        let book = Book::accept(&book([v, n, p], &nodes)).expect("it is accepted");
+        let searched = search(book.bytes(), 0, &mut [0; 12]).settled();
+        let expected = match book.stray().first() {
+            Some(&variable) => Err(Refusal::StrayVariable {
+                variable: variable.into(),
+            }),
+            None => Ok(Verdict::Spent),
+        };
+        assert_eq!(searched, expected, "{book:?}");
     }
 }
 

@@ -1,6 +1,6 @@
 //! What `explain` says of books, accepted and refused.
 
-use crate::run::{run, run_on, sample, P1};
+use crate::run::{run, run_on, sample, P1, STRAY};
 
 #[test]
 fn accepted() {
@@ -10,6 +10,18 @@ fn accepted() {
         explained.out,
         "formula  ls(x1, nil) ∧ (x1 ↦ x1 * (nil = nil ∨ ¬(nil = nil)))\nnodes    8\n\
          bounds   v = 1, n = 4, p = 4\nT        6480 candidates\nrows     26\n"
+    );
+}
+
+/// A book with stray variables is accepted, and explain names them.
+#[test]
+fn stray_variables() {
+    let explained = run_on(&STRAY, &["explain", "-"]);
+    assert_eq!((explained.status, &*explained.err), (0, ""));
+    assert_eq!(
+        explained.out,
+        "formula  x2 ↦ nil\nnodes    1\nbounds   v = 4, n = 1, p = 1\nT        48 candidates\n\
+         rows     3\nstray    x1, x3, x4: declared, but named by no atom; search refuses the book\n"
     );
 }
 

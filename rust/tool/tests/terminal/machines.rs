@@ -3,7 +3,7 @@
 use std::collections::BTreeMap;
 
 use crate::json::{parse, Json};
-use crate::run::{run, run_on, sample, Run, P1};
+use crate::run::{run, run_on, sample, Run, P1, STRAY};
 
 fn fields(run: &Run) -> BTreeMap<String, Json> {
     assert_eq!(run.err, "");
@@ -122,6 +122,27 @@ fn what_stands_in_a_book() {
     assert_eq!(fields["formula"], text("x1 ↦ x1"));
     for (name, number) in [("v", 1), ("n", 1), ("p", 1), ("total", 6), ("rows", 3)] {
         assert_eq!(fields[name], Json::Number(number), "{name}");
+    }
+    assert_eq!(fields["stray"], Json::List(Vec::new()));
+}
+
+#[test]
+fn stray_variables() {
+    let explained = fields(&run_on(&STRAY, &["explain", "-", "--json"]));
+    assert_eq!(explained["number"], Json::Number(0));
+    assert_eq!(
+        explained["stray"],
+        Json::List([1, 3, 4].map(Json::Number).to_vec())
+    );
+    for command in ["search", "draw"] {
+        let run = run_on(&STRAY, &[command, "-", "--json"]);
+        assert_eq!(run.status, 3, "{command}");
+        let fields = fields(&run);
+        for (name, number) in [("number", 25), ("place", 1), ("tried", 0)] {
+            assert_eq!(fields[name], Json::Number(number), "{command}: {name}");
+        }
+        let words = "x1 is declared, but no atom names it";
+        assert_eq!(fields["meaning"], text(words), "{command}");
     }
 }
 

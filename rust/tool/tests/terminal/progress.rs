@@ -4,18 +4,25 @@ use std::io::{BufRead, BufReader};
 use std::process::Stdio;
 use std::time::{Duration, Instant};
 
+use hollyspool::{Book, Formula, NIL};
+
 use crate::run::{run_on, tool};
 
-/// nil ↦ x, which nothing fits, over this many variables and locations.
-fn hopeless(v: u8, n: u8) -> [u8; 17] {
-    [2, 1, 11, 0, 3, 0, 2, 14, 0, 3, 0, v, n, 1, 3, 0, 1]
+/// nil ↦ x1, which nothing fits, and equations that name the other variables and are never reached,
+/// over six variables and this many locations.
+fn hopeless(n: u8) -> Vec<u8> {
+    let names = [(3, 4), (5, 6)].map(|(x, y)| Formula::Equal(x, y));
+    let names = names.into_iter().fold(Formula::Equal(1, 2), Formula::and);
+    let formula = Formula::Points(NIL, 1).and(names);
+    let book = Book::new(6, n, 1, &formula).expect("it can be written");
+    book.bytes().to_vec()
 }
 
 /// A search of minutes reports after a second, with estimates.
 #[test]
 fn while_it_runs() {
     let path = format!("{}/long.book", env!("CARGO_TARGET_TMPDIR"));
-    std::fs::write(&path, hopeless(6, 6)).expect("there is room for a book");
+    std::fs::write(&path, hopeless(6)).expect("there is room for a book");
     let mut child = tool(&["search", &path])
         .stdout(Stdio::null())
         .stderr(Stdio::piped())
@@ -35,9 +42,9 @@ fn while_it_runs() {
 /// A search of over a second ends with the true figures; a shorter one says nothing.
 #[test]
 fn when_it_has_ended() {
-    for (budget, share) in [("1000", "0.0 % of T"), ("300000000", "38.3 % of T")] {
+    for (budget, share) in [("1000", "0.0 % of T"), ("150000000", "19.1 % of T")] {
         let started = Instant::now();
-        let run = run_on(&hopeless(6, 5), &["search", "-", "--budget", budget]);
+        let run = run_on(&hopeless(5), &["search", "-", "--budget", budget]);
         let took = started.elapsed();
         assert_eq!(run.status, 2);
         // The tool's own time is shorter than what it took to start and end it.

@@ -48,5 +48,8 @@ pub fn sample(name: &str) -> String {
     format!("{}/../../books/{name}.book", env!("CARGO_MANIFEST_DIR"))
 }
 
+/// x2 ↦ nil, bounds 4 1 1: all variables but x2 are stray.
+pub const STRAY: [u8; 17] = [2, 1, 11, 0, 3, 0, 2, 14, 0, 3, 0, 4, 1, 1, 3, 2, 0];
+
 /// P1's book: x ↦ x, bounds 1 1 1.
 pub const P1: [u8; 17] = [2, 1, 11, 0, 3, 0, 2, 14, 0, 3, 0, 1, 1, 1, 3, 1, 1];

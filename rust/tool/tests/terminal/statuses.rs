@@ -1,6 +1,6 @@
 //! What each command prints for each answer, and its exit status.
 
-use crate::run::{run, run_on, sample, P1};
+use crate::run::{run, run_on, sample, P1, STRAY};
 
 #[test]
 fn found_none_and_spent() {
@@ -94,6 +94,22 @@ fn encoded() {
     let refused = run_on(&negated, &["encode", "-"]);
     assert_eq!((refused.status, &*refused.out), (3, ""));
     assert!(refused.err.starts_with("hollyspool: refused with 19: "));
+}
+
+/// What searches refuses a stray variable; what doesn't takes the book.
+#[test]
+fn stray_variables() {
+    for command in ["search", "draw"] {
+        let refused = run_on(&STRAY, &[command, "-"]);
+        assert_eq!((refused.status, &*refused.out), (3, ""), "{command}");
+        assert_eq!(
+            refused.err,
+            "hollyspool: refused with 25: x1 is declared, but no atom names it\n"
+        );
+    }
+    assert_eq!(run_on(&STRAY, &["judge", "-", "0001000000"]).status, 0);
+    assert_eq!(run_on(&STRAY, &["encode", "-"]).status, 0);
+    assert_eq!(run_on(&STRAY, &["assign", "-", "000100000001"]).status, 0);
 }
 
 #[test]
