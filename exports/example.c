@@ -1,4 +1,4 @@
-/* All six calls on one book: x points to itself, with one variable and one location.
+/* All seven calls on one book: x points to itself, with one variable and one location.
  *
  *     cc -Wall -Wextra -Werror -O2 exports/example.c target/staticlib/libexports.a -o target/example && target/example
  */
@@ -25,8 +25,17 @@ int main(void)
 {
     static const uint8_t book[] = {2, 1, 11, 0, 3, 0, 2, 14, 0, 3, 0, 1, 1, 1, 3, 1, 1};
     static const uint8_t assignment[] = {1, 1, 1};
+    static const char text[] = "(pto x x)";
     static uint8_t encoding[HOLLYSPOOL_MOST_ENCODED];
+    uint8_t imported[HOLLYSPOOL_MOST_BOOK];
     uint8_t model[HOLLYSPOOL_MOST_MODEL];
+
+    /* The same book from its text. A string's last byte, 0, is not part of the text. */
+    const uint8_t *letters = (const uint8_t *)text;
+    print_answer("import", hollyspool_import(letters, sizeof text - 1, 1, 1, imported, sizeof imported));
+    print_bytes("book", imported, 14 + imported[9] + 256u * imported[10]);
+    /* A refusal, for comparison: the text stops before its last bracket. */
+    print_answer("import", hollyspool_import(letters, sizeof text - 2, 1, 1, imported, sizeof imported));
 
     print_answer("read", hollyspool_read(book, sizeof book));
     /* A refusal, for comparison: the last byte is missing, so the body of entry 1 runs past the book. */

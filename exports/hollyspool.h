@@ -12,15 +12,15 @@
 extern "C" {
 #endif
 
-/* The numbers given back. The place of a refusal is the node (14 to 16), the byte (18, 22) or the entry (23, 24) that it
- * names, from 0, or the variable (25), from 1. */
+/* The numbers given back. The place of a refusal is the node (14 to 16), the byte (18, 22, 26 to 28) or the entry (23, 24) that
+ * it names, from 0, or the variable (25), from 1. */
 enum hollyspool_number {
     HOLLYSPOOL_YES = 0,               /* fits, found, written, satisfied */
     HOLLYSPOOL_NO = 1,                /* doesn't fit; none within the bounds; not satisfied */
     HOLLYSPOOL_SPENT = 2,             /* budget spent */
     HOLLYSPOOL_BOOK_LENGTH = 10,      /* book under 11 or over 206 bytes */
     HOLLYSPOOL_CONTENTS = 11,         /* entry count not 2 */
-    HOLLYSPOOL_BOUNDS = 12,           /* bounds body not 3 bytes, or a byte over 6 */
+    HOLLYSPOOL_BOUNDS = 12,           /* bounds body not 3 bytes, or a bound over 6 */
     HOLLYSPOOL_FORMULA = 13,          /* formula empty or not a multiple of 3 */
     HOLLYSPOOL_OPERATOR = 14,         /* operator not 1 to 10 */
     HOLLYSPOOL_OPERAND = 15,          /* variable over v, child not lower, b of 8 not 0 */
@@ -33,12 +33,16 @@ enum hollyspool_number {
     HOLLYSPOOL_ASSIGNMENT_VALUE = 22, /* assignment's value out of range */
     HOLLYSPOOL_ENTRY_KIND = 23,       /* entry of a wrong kind */
     HOLLYSPOOL_ENTRY_STRETCH = 24,    /* entry with a wrong offset or length */
-    HOLLYSPOOL_STRAY_VARIABLE = 25    /* declared variable that no atom names; from a search alone */
+    HOLLYSPOOL_STRAY_VARIABLE = 25,   /* declared variable that no atom names; from a search alone */
+    HOLLYSPOOL_BAD_TEXT = 26,         /* text not well-formed: its first byte with which none can go on, or its length */
+    HOLLYSPOOL_MANY_NODES = 27,       /* text with over 64 nodes: the last byte of the item that passes 64 */
+    HOLLYSPOOL_MANY_NAMES = 28        /* text with a seventh name: its first byte */
 };
 
-/* An output of this many bytes is never too short for a search, or for an encoding. */
+/* An output of this many bytes is never too short for a search, for an encoding, or for an import. */
 #define HOLLYSPOOL_MOST_MODEL 12
 #define HOLLYSPOOL_MOST_ENCODED 6354
+#define HOLLYSPOOL_MOST_BOOK 206
 
 /* What every call but body answers; tried is 0 outside search. */
 typedef struct {
@@ -73,6 +77,12 @@ hollyspool_answer hollyspool_encode(const uint8_t *book, size_t book_length, uin
 /* Says whether the assignment satisfies the rows that the encoder gives for the book. */
 hollyspool_answer hollyspool_assign(const uint8_t *book, size_t book_length, const uint8_t *assignment,
                                     size_t assignment_length);
+
+/* Writes the book of the formula that the text means, over n locations and with path bound p. The book's contents say how long
+ * it is; its variables are the text's names, numbered as they first appear. A text may be of any length. Output bytes change as
+ * for search. */
+hollyspool_answer hollyspool_import(const uint8_t *text, size_t text_length, uint64_t n, uint64_t p, uint8_t *out,
+                                    size_t out_length);
 
 #ifdef __cplusplus
 }

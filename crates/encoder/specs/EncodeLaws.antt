@@ -16,7 +16,7 @@ use Rattle.logic.specs.CheckLaws.{Yes, answers-refused, answers-after}
 use Rattle.logic.specs.Reflect.{Is, fails}
 use Rattle.logic.specs.Formula.{Form}
 use Rattle.logic.specs.Table.{opOf, tree}
-use Rattle.logic.specs.Book.{nodes, root, bookFormula, pathOf, bookChecks, Reads, Accepted, Known, Bodies}
+use Rattle.logic.specs.Book.{headOf, nodes, root, bookFormula, pathOf, bookChecks, Reads, Accepted, Known, Bodies}
 use Rattle.logic.specs.OpenLaws.{path-low, known, formula-is}
 use Rattle.rows.specs.declared.Next.{Next}
 use Rattle.rows.specs.Row.{bytesOf}
@@ -25,7 +25,7 @@ use Rattle.rows.specs.TableLaws.{rows-long}
 use Rattle.rows.specs.Weight.{sum}
 use Rattle.rows.specs.Bounds.{mostRows, ownRows}
 use Rattle.rows.specs.BoundsLaws.{rows-add}
-use Rattle.rows.specs.Output.{headOf, outBook, encodingOf, encodeRest, Encodes}
+use Rattle.rows.specs.Output.{outBook, encodingOf, encodeRest, Encodes}
 use Rattle.rows.specs.OutputLaws.{encoding-long}
 use Rattle.encodable.specs.CountingLaws.{counted, rows-most, arrays-most, sets-most}
 use Rattle.rowbytes.specs.Written.{put}
@@ -98,13 +98,14 @@ module _ (f : List ℕ) (p r : ℕ) (o : List ℕ) (w : Writable f p r o) where
       let j = sets-most (w .known .0) f (w .known .1) in
       record { space = record { out = omega (arith, w .out, w .rows); row = omega (arith, rows-low) }; array = omega (arith, i); set = omega (arith, j) }
 
-  pub book-written : (v n : ℕ) (t : Next) (x y : List ℕ) → x ≡ put 0 (headOf v n p (10 * r)) o
+  pub book-written : (v n : ℕ) (t : Next) (x y : List ℕ) → x ≡ headOf 3 v n p (10 * r) ++ drop 14 o
       → Encoded p (tree f (root f)) 0 0 start t (take (length x - 14) (drop 14 x)) y
       → take 14 x ++ (y ++ drop (length x - 14) (drop 14 x)) ≡ put 0 (outBook v n p (table p (tree f (root f)))) o
+  unfolding put
   book-written v n t x y d q =
       let e : 10 * r ≡ 10 * length (table p (tree f (root f))) = ap (λ (k : ℕ). 10 * k) (w .rows ∙ sym (rows-long p (tree f (root f)) 0 0 start)) in
-      part-written (headOf v n p (10 * length (table p (tree f (root f))))) (bytesOf (table p (tree f (root f)))) o x y refl
-      (d ∙ ap (λ (k : ℕ). put 0 (headOf v n p k) o) e) (q .bytes)
+      part-written (headOf 3 v n p (10 * length (table p (tree f (root f))))) (bytesOf (table p (tree f (root f)))) o x y refl
+      (d ∙ ap (λ (k : ℕ). headOf 3 v n p k ++ drop 14 o) e) (q .bytes)
 
 -- ---- the encoder's answer, from the answers of its steps
 

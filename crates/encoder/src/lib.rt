@@ -2,6 +2,8 @@
 use book::open;
 use contents::part;
 use encodable::encodable;
+use head::HEAD;
+use head::put_head;
 use leaves::answer_of;
 use leaves::index;
 use leaves::short;
@@ -15,7 +17,7 @@ ghost use Rattle.logic.specs.Table.{tree};
 ghost use Rattle.logic.specs.Book.{root};
 ghost use Rattle.rows.specs.Table.{rowsIn, table};
 ghost use Rattle.rows.specs.Bounds.{ownRows};
-ghost use Rattle.rows.specs.Output.{headOf, outBook, Encodes};
+ghost use Rattle.rows.specs.Output.{outBook, Encodes};
 ghost use Rattle.encodable.specs.Known.{KnownTable};
 ghost use Rattle.rowbytes.specs.Written.{put};
 ghost use Rattle.encoder.specs.Writable.{Writable};
@@ -50,40 +52,19 @@ fn row_count(f: &[u8], p: u8) -> u16
     r
 }
 
-// Writes the contents and the bounds of a book with that many bytes of rows.
-fn put_head(out: &mut [u8], v: u8, n: u8, p: u8, size: u16)
-    requires { ⌜ 14 ≤ length (now out) ⌝ }
-    ensures { λ r. ⌜ now (out .exit) ≡ put 0 (headOf v n p size) (now (out .entry)) ⌝ }
-{
-    out[0] = 2;
-    out[1] = 1;
-    out[2] = 11;
-    out[3] = 0;
-    out[4] = 3;
-    out[5] = 0;
-    out[6] = 3;
-    out[7] = 14;
-    out[8] = 0;
-    out[9] = (size % 256) as u8;
-    out[10] = (size / 256) as u8;
-    out[11] = v;
-    out[12] = n;
-    out[13] = p;
-}
-
 // Writes the whole book, of that many rows, to the front of the output.
 fn write(out: &mut [u8], f: &[u8], v: u8, n: u8, p: u8, rows: u16)
     requires { ⌜ Writable (now f) p rows (now out) ⌝ }
     ensures { λ r. ⌜ now (out .exit) ≡ put 0 (outBook v n p (table p (tree (now (f .entry)) (root (now (f .entry)))))) (now (out .entry)) ⌝ }
 {
-    put_head(out, v, n, p, 10 * rows);
+    put_head(out, 3, v, n, p, 10 * rows);
     let st = Next {
         row: 0,
         array: 1,
         set: 1,
     };
     let end = f.len() / 3 - 1;
-    let _t = node(&mut out[14..], f, p, end, 0, 0, st);
+    let _t = node(&mut out[HEAD..], f, p, end, 0, 0, st);
 }
 
 // The encoding of a book, at the front of the output: number 0, or the refusal of the first part that fails, and then nothing
@@ -102,7 +83,7 @@ pub fn encode(book: &[u8], out: &mut [u8]) -> Answer
     }
     let p = opened.p as u8;
     let rows = row_count(f, p);
-    if out.len() < 14 + 10 * index(rows) {
+    if out.len() < HEAD + 10 * index(rows) {
         return answer_of(logic::OUTPUT_LENGTH, 0);
     }
     write(out, f, opened.v as u8, opened.n as u8, p, rows);

@@ -1,6 +1,7 @@
 // The boundary for C and Rust: each public call of the bench, with the full contract of the call it wraps. A slice arrives as a pointer and a length.
 use contents::Stretch;
 use logic::Answer;
+ghost use Rattle.grammar.specs.Import.{Imports};
 ghost use Rattle.logic.specs.Book.{Reads, Placed};
 ghost use Rattle.logic.specs.Model.{Judges};
 ghost use Rattle.logic.specs.Search.{Searches};
@@ -47,4 +48,11 @@ pub extern "C" fn hollyspool_assign(book: &[u8], assignment: &[u8]) -> Answer
     ensures { λ r. ⌜ Assigns (now (book .entry)) (now (assignment .entry)) r ⌝ }
 {
     assign::assign(book, assignment)
+}
+
+#[no_mangle]
+pub extern "C" fn hollyspool_import(text: &[u8], n: u64, p: u64, out: &mut [u8]) -> Answer
+    ensures { λ r. ⌜ Imports (now (text .entry)) n p (now (out .entry)) r (now (out .exit)) ⌝ }
+{
+    import::import(text, n, p, out)
 }

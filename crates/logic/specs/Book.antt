@@ -1,7 +1,7 @@
 -- The problem book, byte by byte: its contents, its bodies, what an accepted book is, and what the reader answers. Assumes
 -- nothing: these are definitions.
 use mathlib.Core.Path.{_≡_}
-use mathlib.Core.List.{List, []}
+use mathlib.Core.List.{List, [], _∷_}
 use mathlib.Core.Logic.{_⊎_}
 use Prim.Native.Nat.{ℕ, zero, suc, _+_, _-_, _*_, _/_, _%_, _<_, _≤_}
 use lib.ListN.{length, getD, take, drop}
@@ -131,6 +131,10 @@ tableChecks v f = upto (nodeChecks v f) (nodes f) then upto (useChecks f) (root 
 
 abbrev pub bookChecks : List ℕ → Checks
 bookChecks s = contentsChecks s then (bodyChecks (stretch s 0) (formulaOf s) then tableChecks (varsOf s) (formulaOf s))
+
+-- the contents and the bounds of a book whose second body has that kind, so many bytes, and starts at byte 14
+abbrev pub headOf : ℕ → ℕ → ℕ → ℕ → ℕ → List ℕ
+headOf kind v n p bytes = 2 ∷ 1 ∷ 11 ∷ 0 ∷ 3 ∷ 0 ∷ kind ∷ 14 ∷ 0 ∷ (bytes % 256) ∷ (bytes / 256) ∷ v ∷ n ∷ p ∷ []
 
 -- what `read` gives back for the book s: number 0, or the refusal of the first part that fails
 unfoldable pub Reads : List ℕ → Answer → Type 0

@@ -5,7 +5,7 @@ use mathlib.Core.List.{List, [], _∷_}
 use Prim.Native.Nat.{ℕ, _<_}
 use lib.ListN.{length, getD}
 use Rattle.logic.specs.Numbers.{yes-number, no-number, spent-number}
-use Rattle.logic.specs.Tests.{any, all, digit, inPart, heapOf, part, rest, union, without, named, empty, isValue, inLocs, within, apartAt, apart, points, chain, sepAt, septAt}
+use Rattle.logic.specs.Tests.{sameBytes, any, all, digit, inPart, heapOf, part, rest, union, without, named, empty, isValue, inLocs, within, apartAt, apart, points, chain, sepAt, septAt}
 use Rattle.logic.specs.Truth.{truth}
 use Rattle.logic.specs.Table.{kindOf, uses, tree, deep, formOf, atomOf, joinOf, joinFrom5}
 use Rattle.logic.specs.Model.{stackIn, heapIn}
@@ -14,7 +14,7 @@ use Rattle.logic.specs.Candidates.{digitsOf, bytesTo}
 use Rattle.logic.specs.Trials.{fitsAt, first, outcomeOf}
 use Rattle.logic.specs.Entries.{every, entry-of}
 use Rattle.logic.specs.JudgeExamples.{Judged, JudgedRight, judgedTest, judged-right}
-use Rattle.logic.specs.SearchExamples.{Searched, SearchedRight, searchedTest, searched-right, sameBytes, written, worked-out}
+use Rattle.logic.specs.SearchExamples.{Searched, SearchedRight, searchedTest, searched-right, written, worked-out}
 
 -- the book with the bounds v, n, p and the formula f
 bookOf : ℕ → ℕ → ℕ → List ℕ → List ℕ

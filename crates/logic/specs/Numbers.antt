@@ -76,6 +76,16 @@ entry-stretch = 24
 abbrev pub stray-variable : ℕ
 stray-variable = 25
 
+-- "26 bad text", "27 more than 64 nodes", "28 a seventh name" (document 02)
+abbrev pub bad-text : ℕ
+bad-text = 26
+
+abbrev pub many-nodes : ℕ
+many-nodes = 27
+
+abbrev pub many-names : ℕ
+many-names = 28
+
 -- "Each answer is a number, a place and a tried count (0 outside search)."
 abbrev pub answer : ℕ → ℕ → Answer
 answer m q = record { number = m; place = q; tried = 0 }

@@ -1,14 +1,16 @@
 -- A test that says whether a fact holds, and how the tests' connectives follow those of the facts. Assumes nothing.
-use mathlib.Core.Path.{_≡_, refl, sym, subst, _∙_}
+use mathlib.Core.Path.{_≡_, refl, sym, ap, ap₂, subst, _∙_}
 use mathlib.Core.Bool.{Bool, true, false, not}
+use mathlib.Core.List.{List, [], _∷_}
 use mathlib.Core.Logic.{_⊎_, inl, inr, ⊎-elim}
 use Prim.Native.Nat.{ℕ, zero, suc, _<_, _≤_}
 use native.Mathlib.Nat.{not-suc-le-zero, eq-or-lt-of-le, le-of-suc-le-suc}
 use native.Mathlib.Decide.{ℕ-discrete}
 use native.Mathlib.Omega.{arith}
 use lib.Dec.{eqb, leb, ltb}
+use lib.ListN.{length, getD, drop}
 use borrow.Author.Tests.{eqb-true, eq-eqb, leb-true, le-leb, ltb-true, lt-ltb}
-use Rattle.logic.specs.Tests.{andb, orb, any, all}
+use Rattle.logic.specs.Tests.{andb, orb, sameBytes, any, all}
 
 pub record Is (b : Bool) (P : Type 0) : Type 0 where
   pub to : b ≡ true → P
@@ -44,6 +46,16 @@ pub is-not : (a : Bool) {P : Type 0} → Is a P → Is (not a) (¬ P)
 is-not true i = record { to = λ e. false-true e; from = λ f. absurd (f (i .to refl)) }
 is-not false i = record { to = λ e p. false-true (i .from p); from = λ f. refl }
 
+pub is-same-bytes : (xs ys : List ℕ) → Is (sameBytes xs ys) (xs ≡ ys)
+unfolding sameBytes
+is-same-bytes [] [] = record { to = λ e. refl; from = λ q. refl }
+is-same-bytes [] (y ∷ ys) = record { to = λ e. false-true e; from = λ q. absurd (omega (arith, ap length q)) }
+is-same-bytes (x ∷ xs) [] = record { to = λ e. false-true e; from = λ q. absurd (omega (arith, ap length q)) }
+is-same-bytes (x ∷ xs) (y ∷ ys) =
+    is-iff (is-and (eqb x y) (sameBytes xs ys) (is-eq x y) (is-same-bytes xs ys))
+    (λ q. ap₂ (λ (u : ℕ) (us : List ℕ). u ∷ us) (q .0) (q .1))
+    (λ q. (ap (λ (l : List ℕ). getD l 0 0) q, ap (drop 1) q))
+
 module _ (f : ℕ → Bool) (P : ℕ → Type 0) where
   pub is-all : (k : ℕ) → ((i : ℕ) → i < k → Is (f i) (P i)) → Is (all k f) ((i : ℕ) → i < k → P i)
   unfolding all
@@ -70,6 +82,11 @@ is-same false false i j = refl
 -- where the test does not pass, the fact does not hold
 pub fails : (b : Bool) {P : Type 0} → Is b P → b ≡ false → ¬ P
 fails b i e p = false-true (sym e ∙ i .from p)
+
+-- and where the fact does not hold, the test does not pass
+pub refutes : (b : Bool) {P : Type 0} → Is b P → ¬ P → b ≡ false
+refutes true i f = absurd (f (i .to refl))
+refutes false i f = refl
 
 -- a fact that a test says is decided
 pub decided : (b : Bool) {P : Type 0} → Is b P → P ⊎ (¬ P)

@@ -1,19 +1,19 @@
 -- An example of the search: what it answers and writes, and the test that is worked out for it. Assumes nothing.
-use mathlib.Core.Path.{_≡_, refl, sym, _∙_, ap, ap₂}
-use mathlib.Core.Bool.{Bool, true, false}
-use mathlib.Core.List.{List, [], _∷_, _++_}
+use mathlib.Core.Path.{_≡_, sym, _∙_, ap, ap₂}
+use mathlib.Core.Bool.{Bool, true}
+use mathlib.Core.List.{List, [], _++_}
 use Prim.Native.Nat.{ℕ, zero, suc, _+_, _-_, _≤_}
 use native.Mathlib.Omega.{arith}
 use lib.Dec.{eqb}
 use lib.ListN.{length, drop}
 use Rattle.logic.specs.declared.Answer.{Answer}
-use Rattle.logic.specs.Tests.{andb, heapOf}
+use Rattle.logic.specs.Tests.{andb, sameBytes, heapOf}
 use Rattle.logic.specs.Checks.{upto, Passes}
 use Rattle.logic.specs.CheckLaws.{passes-then}
 use Rattle.logic.specs.Strays.{nameChecks}
 use Rattle.logic.specs.Book.{varsOf, locsOf, formulaOf, Accepted}
 use Rattle.logic.specs.Computed.{accepted, allNamed}
-use Rattle.logic.specs.Reflect.{is-and, is-eq, is-self, false-true}
+use Rattle.logic.specs.Reflect.{is-and, is-eq, is-self, is-same-bytes}
 use Rattle.logic.specs.ComputedLaws.{is-accepted, is-all-named}
 use Rattle.logic.specs.Candidates.{stackOf, modelOf}
 use Rattle.logic.specs.CandidateLaws.{model-long}
@@ -36,21 +36,6 @@ SearchedRight w =
     → (a ≡ searched (w .number) (w .tried)) × (o′ ≡ w .model ++ drop (length (w .model)) o)
 
 -- ---- the test of an example: the book is accepted, atoms name its variables, and the number, the tried count and the bytes are those that are worked out
-
-unfoldable pub sameBytes : List ℕ → List ℕ → Bool
-sameBytes [] [] = true
-sameBytes [] (y ∷ ys) = false
-sameBytes (x ∷ xs) [] = false
-sameBytes (x ∷ xs) (y ∷ ys) = andb (eqb x y) (sameBytes xs ys)
-
-same-bytes : (xs ys : List ℕ) → sameBytes xs ys ≡ true → xs ≡ ys
-unfolding sameBytes
-same-bytes [] [] e = refl
-same-bytes [] (y ∷ ys) e = false-true e
-same-bytes (x ∷ xs) [] e = false-true e
-same-bytes (x ∷ xs) (y ∷ ys) e =
-    let t = is-and (eqb x y) (sameBytes xs ys) (is-eq x y) (is-self (sameBytes xs ys)) .to e in
-    ap₂ (λ (u : ℕ) (us : List ℕ). u ∷ us) (t .0) (same-bytes xs ys (t .1))
 
 -- the bytes that a search writes
 unfoldable pub written : List ℕ → ℕ → ℕ → List ℕ
@@ -88,7 +73,7 @@ module _ (w : Searched) (e : searchedTest w ≡ true) (o : List ℕ) (a : Answer
 
   bytes-are : o′ ≡ w .model ++ drop (length (w .model)) o
   unfolding written
-  bytes-are = go (w .number) (ap (λ (r : Answer). r .number) answer-is) (same-bytes (written (w .book) (w .number) (w .tried)) (w .model) (parts .1 .1))
+  bytes-are = go (w .number) (ap (λ (r : Answer). r .number) answer-is) (is-same-bytes (written (w .book) (w .number) (w .tried)) (w .model) .to (parts .1 .1))
     where
       go : (m : ℕ) → a .number ≡ m → written (w .book) m (w .tried) ≡ w .model → o′ ≡ w .model ++ drop (length (w .model)) o
       go zero z x =

@@ -1,6 +1,7 @@
 -- The tests by which the computed truth is worked out. Each is a Bool that computes; specs/Agree.antt and specs/Chains.antt
 -- prove what each says. Assumes nothing: these are definitions.
 use mathlib.Core.Bool.{Bool, true, false, not}
+use mathlib.Core.List.{List, [], _∷_}
 use Prim.Native.Nat.{ℕ, zero, suc, pred, _+_, _/_, _%_}
 use lib.Dec.{eqb, ltb}
 use Rattle.logic.specs.Heap.{Map}
@@ -20,6 +21,12 @@ pickb false a b = b
 abbrev pub pick : Bool → ℕ → ℕ → ℕ
 pick true a b = a
 pick false a b = b
+
+unfoldable pub sameBytes : List ℕ → List ℕ → Bool
+sameBytes [] [] = true
+sameBytes [] (y ∷ ys) = false
+sameBytes (x ∷ xs) [] = false
+sameBytes (x ∷ xs) (y ∷ ys) = let r = sameBytes xs ys in andb (eqb x y) r
 
 -- the test passes at some number below k; it is tried upward, up to the first at which it passes
 unfoldable pub any : ℕ → (ℕ → Bool) → Bool

@@ -55,3 +55,9 @@ pub const ENTRY_KIND: u64 = 23;
 pub const ENTRY_STRETCH: u64 = 24;
 
 pub const STRAY_VARIABLE: u64 = 25;
+
+pub const BAD_TEXT: u64 = 26;
+
+pub const MANY_NODES: u64 = 27;
+
+pub const MANY_NAMES: u64 = 28;

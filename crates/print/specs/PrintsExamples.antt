@@ -7,13 +7,13 @@ use native.Mathlib.Omega.{arith}
 use lib.ListN.{drop}
 use Rattle.logic.specs.declared.Answer.{Answer}
 use Rattle.logic.specs.Numbers.{yes-number}
-use Rattle.logic.specs.Tests.{any, all, digit, heapOf, points}
+use Rattle.logic.specs.Tests.{any, all, digit, heapOf, points, sameBytes}
 use Rattle.logic.specs.Truth.{truth}
 use Rattle.logic.specs.Table.{kindOf, uses, tree, deep, formOf, atomOf}
 use Rattle.logic.specs.Computed.{laidOut, boundsOk, formulaOk, operandOk, nodeOk, tableOk, allNamed, namedByAtom, accepted}
 use Rattle.logic.specs.Candidates.{digitsOf, bytesTo}
 use Rattle.logic.specs.Trials.{fitsAt, first, outcomeOf}
-use Rattle.logic.specs.SearchExamples.{Searched, searchedTest, searched-right, sameBytes, written, worked-out}
+use Rattle.logic.specs.SearchExamples.{Searched, searchedTest, searched-right, written, worked-out}
 use Rattle.lines.specs.Printed.{printed}
 use Rattle.lines.specs.Shown.{P1-shown}
 use Rattle.lines.specs.PrintedExamples.{P1-printed}

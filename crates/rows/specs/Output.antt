@@ -1,12 +1,12 @@
 -- The encoding of a book, byte by byte, and what the encoder answers and writes. Assumes nothing: these are definitions.
 use mathlib.Core.Path.{_≡_}
-use mathlib.Core.List.{List, [], _∷_, _++_}
-use Prim.Native.Nat.{ℕ, _*_, _/_, _%_, _≤_}
+use mathlib.Core.List.{List, _++_}
+use Prim.Native.Nat.{ℕ, _*_, _≤_}
 use lib.ListN.{length, drop}
 use Rattle.logic.specs.declared.Answer.{Answer}
 use Rattle.logic.specs.Numbers.{answer, yes-number, not-encodable, output-length}
 use Rattle.logic.specs.Checks.{Checks, done, check, _then_, Answers}
-use Rattle.logic.specs.Book.{bookChecks, varsOf, locsOf, pathOf, bookFormula}
+use Rattle.logic.specs.Book.{headOf, bookChecks, varsOf, locsOf, pathOf, bookFormula}
 use Rattle.rows.specs.Row.{Row, bytesOf}
 use Rattle.rows.specs.Table.{table, Encodable}
 
@@ -14,13 +14,9 @@ use Rattle.rows.specs.Table.{table, Encodable}
 abbrev pub bookRows : List ℕ → List Row
 bookRows s = table (pathOf s) (bookFormula s)
 
--- "The output is a book with entries kind 1 (the same bounds) and kind 3 (rows).": the contents and the bounds. The rows are so
--- many bytes, and start at byte 14
-abbrev pub headOf : ℕ → ℕ → ℕ → ℕ → List ℕ
-headOf v n p bytes = 2 ∷ 1 ∷ 11 ∷ 0 ∷ 3 ∷ 0 ∷ 3 ∷ 14 ∷ 0 ∷ bytes % 256 ∷ bytes / 256 ∷ v ∷ n ∷ p ∷ []
-
+-- "The output is a book with entries kind 1 (the same bounds) and kind 3 (rows)."
 abbrev pub outBook : ℕ → ℕ → ℕ → List Row → List ℕ
-outBook v n p rs = headOf v n p (10 * length rs) ++ bytesOf rs
+outBook v n p rs = headOf 3 v n p (10 * length rs) ++ bytesOf rs
 
 unfoldable pub encodingOf : List ℕ → List ℕ
 encodingOf s = outBook (varsOf s) (locsOf s) (pathOf s) (bookRows s)

@@ -1,8 +1,9 @@
-//! Books read and encoded, models and assignments judged, and candidates searched a second, by the proved bench and by the second
-//! one, in one run; how a search's time grows with its budget; and how much stack the proved judge takes.
+//! Books read and encoded, models and assignments judged, candidates searched and text read a second, by the proved bench and by
+//! the second one, in one run; how a search's time grows with its budget, and an import's with its text; and how much stack the
+//! proved judge and the proved import take.
 //!
 //! Both are given the same bytes, book and model anew for each call; there are no buffers to clear.
-//! No model fits any of the formulas, so each is judged to the end.
+//! No model fits any of the formulas, so each is judged to the end. `bench PART` runs one part alone.
 
 use std::hint::black_box;
 use std::time::Instant;
@@ -10,6 +11,7 @@ use std::time::Instant;
 use cases::made::book;
 
 mod stack;
+mod texts;
 
 const BOUNDS: [u8; 3] = [6, 6, 6];
 
@@ -60,12 +62,24 @@ const NESTED: [(&str, u8); 3] = [("¬", 8), ("*", 9), ("−⊛", 10)];
 /// `with_names` says.
 const SEARCHES: [(u8, u64); 4] = [(1, 200_000), (6, 3_000_000), (6, 3_000_000), (6, 20_000)];
 
+/// The parts, by the word that asks for one alone.
+const PARTS: [(&str, fn()); 7] = [
+    ("read", read),
+    ("judge", judged),
+    ("search", searched),
+    ("encode", encoded),
+    ("text", texts::read),
+    ("stack", depths),
+    ("text-stack", texts::depths),
+];
+
 fn main() {
-    read();
-    judged();
-    searched();
-    encoded();
-    depths();
+    let wanted = std::env::args().nth(1);
+    for (word, part) in PARTS {
+        if wanted.as_ref().is_none_or(|wanted| wanted == word) {
+            part();
+        }
+    }
 }
 
 /// A book of 64 nodes: 32 atoms, the conjunction of all of them, and its negation.

@@ -1,5 +1,6 @@
-//! Inputs for the tests of every bench: the lines of the case files, and made books.
+//! Inputs for the tests of every bench: the lines of the case files, made books, and made texts.
 
 pub mod line;
 pub mod made;
 pub mod random;
+pub mod texts;

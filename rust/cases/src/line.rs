@@ -11,6 +11,7 @@ pub enum Call {
     Encode,
     Assign,
     Shape,
+    Import,
 }
 
 /// An answer and the bytes that came with it.
@@ -40,8 +41,9 @@ pub struct Case {
     /// The file and line, for messages.
     pub source: String,
     pub call: Call,
+    /// The book or, for an import, the text.
     pub book: Vec<u8>,
-    /// The model or the assignment.
+    /// The model, the assignment, or the bounds n and p.
     pub arg: Vec<u8>,
     /// The budget or the entry.
     pub number: u64,
@@ -111,6 +113,7 @@ fn call_named(word: &str) -> Option<Call> {
         "encode" => Call::Encode,
         "assign" => Call::Assign,
         "shape" => Call::Shape,
+        "import" => Call::Import,
         _ => return None,
     })
 }

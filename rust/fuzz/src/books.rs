@@ -1,6 +1,6 @@
 //! Books: any bytes, made ones, those of the case files, and damaged ones of both.
 
-use cases::line;
+use cases::line::{self, Call};
 use cases::made::{self, name_all, tree};
 use cases::random::Random;
 use second::book::{Book, BOUNDS, CONTENTS, MOST, MOST_NODES};
@@ -22,7 +22,9 @@ pub struct Books {
 
 impl Books {
     pub fn new() -> Books {
-        let mut known: Vec<Vec<u8>> = line::all().into_iter().map(|case| case.book).collect();
+        let lines = line::all().into_iter();
+        let books = lines.filter(|case| case.call != Call::Import);
+        let mut known: Vec<Vec<u8>> = books.map(|case| case.book).collect();
         known.sort();
         known.dedup();
         Books { known }

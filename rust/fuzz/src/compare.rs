@@ -4,7 +4,7 @@ use hollyspool::Answer;
 use second::book::Book;
 
 use crate::guarded::Guarded;
-use crate::input::Input;
+use crate::input::{Input, Text};
 use crate::tally::{Call, Tally};
 
 /// Makes all calls, or says what differs.
@@ -20,7 +20,8 @@ pub fn all(input: &Input, tally: &mut Tally) -> Result<(), String> {
     let second = second::assign::assign(book, &input.assignment);
     same(tally, Call::Assign, proved, second)?;
     search(input, tally)?;
-    encode(input, tally)
+    encode(input, tally)?;
+    import(&input.text, tally)
 }
 
 /// Compares two answers, and counts them if they are the same.
@@ -64,14 +65,44 @@ fn encode(input: &Input, tally: &mut Tally) -> Result<(), String> {
     let encoded = hollyspool::encode(book, proved.out());
     let expected = second::encode::encode(book, second.out());
     same(tally, Call::Encode, encoded, expected)?;
-    // The length that the encoding's own contents give.
-    let length = match *second.out() {
+    let length = stated(second.out());
+    outputs(Call::Encode, encoded, length, &mut proved, &mut second)
+}
+
+/// The import, at times of every beginning of the text as well.
+fn import(text: &Text, tally: &mut Tally) -> Result<(), String> {
+    let first = if text.cut { 0 } else { text.bytes.len() };
+    (first..=text.bytes.len()).try_for_each(|length| import_cut(text, length, tally))
+}
+
+/// The import of a text's beginning; and what it writes is a book, which names its variables.
+fn import_cut(text: &Text, length: usize, tally: &mut Tally) -> Result<(), String> {
+    let &Text { n, p, room, .. } = text;
+    let cut = &text.bytes[..length];
+    let [mut proved, mut second] = [(); 2].map(|()| Guarded::new(room));
+    let imported = hollyspool::import(cut, n, p, proved.out());
+    let expected = second::import::import(cut, n, p, second.out());
+    let of_length = |what: String| format!("{what}, cut at {length}");
+    same(tally, Call::Import, imported, expected).map_err(of_length)?;
+    let length = stated(second.out());
+    outputs(Call::Import, imported, length, &mut proved, &mut second).map_err(of_length)?;
+    if imported.number == 0 {
+        let searched = hollyspool::search(&proved.out()[..length], 0, &mut [0; 12]);
+        if searched.number != 2 {
+            return Err(of_length(format!("the imported book gives {searched:?}")));
+        }
+    }
+    Ok(())
+}
+
+/// The length that a book's own contents give.
+fn stated(book: &[u8]) -> usize {
+    match *book {
         [_, _, _, _, _, _, _, _, _, low, high, ..] => {
             14 + usize::from(low) + 256 * usize::from(high)
         }
         _ => 0,
-    };
-    outputs(Call::Encode, encoded, length, &mut proved, &mut second)
+    }
 }
 
 /// The body is the same stretch of the caller's bytes: where it starts counts, even of an empty one.

@@ -1,12 +1,15 @@
 //! What the calls are given in one round.
 
+use std::fmt;
+
 use cases::random::Random;
-use second::book::{Book, Bounds, MOST};
+use second::book::{Book, Bounds, BOUNDS, CONTENTS, LONGEST, MOST};
 use second::candidate::count;
 use second::rows::Table;
 
 use crate::books::{tame, Books};
 use crate::damage::damage;
+use crate::texts::Texts;
 
 /// The visits of nodes that one search may cost.
 const VISITS: u64 = 60_000;
@@ -23,10 +26,67 @@ pub struct Input {
     pub model_room: usize,
     /// The length of an encoding's output.
     pub encoding_room: usize,
+    pub text: Text,
+}
+
+/// What an import may take.
+pub struct Text {
+    pub bytes: Vec<u8>,
+    pub n: u64,
+    pub p: u64,
+    /// The length of the output.
+    pub room: usize,
+    /// Whether it is also read cut at every length.
+    pub cut: bool,
+}
+
+/// A text shows as one.
+impl fmt::Debug for Text {
+    fn fmt(&self, f: &mut fmt::Formatter<'_>) -> fmt::Result {
+        let Text { n, p, room, .. } = self;
+        let text = self.bytes.escape_ascii();
+        write!(f, "\"{text}\" with n = {n}, p = {p}, room for {room}")
+    }
+}
+
+impl Text {
+    fn random(random: &mut Random, texts: &Texts) -> Text {
+        let most = MOST as u64;
+        let bounds = [
+            0,
+            1,
+            2,
+            most,
+            most,
+            most,
+            most + 1,
+            255,
+            256,
+            1 << 32,
+            u64::MAX,
+        ];
+        let bytes = texts.any(random);
+        let mut out = [0; LONGEST];
+        let needed = match second::import::import(&bytes, 0, 0, &mut out).number {
+            0 => CONTENTS + BOUNDS + usize::from(out[9]),
+            _ => LONGEST,
+        };
+        let bound = |random: &mut Random| match random.below(16) {
+            0 => random.one_of(&bounds),
+            _ => random.below(MOST + 1) as u64,
+        };
+        Text {
+            n: bound(random),
+            p: bound(random),
+            room: room(random, needed),
+            cut: random.below(200) == 0,
+            bytes,
+        }
+    }
 }
 
 impl Input {
-    pub fn random(random: &mut Random, books: &Books) -> Input {
+    pub fn random(random: &mut Random, books: &Books, texts: &Texts) -> Input {
         let mut book = books.any(random);
         let visits = tame(&mut book);
         let accepted = Book::accept(&book).ok();
@@ -42,6 +102,7 @@ impl Input {
             budget: budget(random, count(bounds), visits),
             model_room: room(random, bounds.v + bounds.n),
             encoding_room: room(random, 14 + 10 * rows),
+            text: Text::random(random, texts),
             book,
         }
     }

@@ -9,6 +9,7 @@ mod damage;
 mod guarded;
 mod input;
 mod tally;
+mod texts;
 
 use std::process::ExitCode;
 use std::time::Instant;
@@ -18,6 +19,7 @@ use cases::random::Random;
 use books::Books;
 use input::Input;
 use tally::Tally;
+use texts::Texts;
 
 /// Some seconds' worth.
 const COUNT: u64 = 500_000;
@@ -50,10 +52,10 @@ fn main() -> ExitCode {
 /// The answers of a whole run, or the first difference.
 fn run(count: u64, seed: u64) -> Result<Tally, String> {
     let mut random = Random::new(seed);
-    let books = Books::new();
+    let (books, texts) = (Books::new(), Texts::new());
     let mut tally = Tally::default();
     for round in 0..count {
-        let input = Input::random(&mut random, &books);
+        let input = Input::random(&mut random, &books, &texts);
         compare::all(&input, &mut tally)
             .map_err(|what| format!("input {round} with seed {seed}: {what}\n{input:?}"))?;
     }

@@ -10,14 +10,15 @@ pub enum Call {
     Search,
     Encode,
     Assign,
+    Import,
 }
 
 /// One more than the highest number.
-const NUMBERS: usize = 26;
+const NUMBERS: usize = 29;
 
 /// Counts by number and call.
 #[derive(Default)]
-pub struct Tally([[u64; 5]; NUMBERS]);
+pub struct Tally([[u64; 6]; NUMBERS]);
 
 impl Tally {
     pub fn count(&mut self, call: Call, number: u64) {
@@ -29,7 +30,7 @@ impl fmt::Display for Tally {
     fn fmt(&self, f: &mut fmt::Formatter<'_>) -> fmt::Result {
         write!(
             f,
-            "number      read     judge    search    encode    assign"
+            "number      read     judge    search    encode    assign    import"
         )?;
         for (number, counts) in self.0.iter().enumerate() {
             if (3..10).contains(&number) {

@@ -3,16 +3,17 @@
 
 use std::process::Command;
 
-/// The numbers of a book's refusals, which every call gives.
+/// The numbers of a book's refusals, which every call on a book gives.
 const BOOK: [u64; 9] = [10, 11, 12, 13, 14, 15, 16, 23, 24];
 
-/// The calls in the order of the tally, with the other numbers that each gives.
-const CALLS: [(&str, &[u64]); 5] = [
-    ("read", &[0]),
-    ("judge", &[0, 1, 17, 18]),
-    ("search", &[0, 1, 2, 20, 25]),
-    ("encode", &[0, 19, 20]),
-    ("assign", &[0, 1, 19, 21, 22]),
+/// The calls in the order of the tally: whether it is on a book, and the other numbers it gives.
+const CALLS: [(&str, bool, &[u64]); 6] = [
+    ("read", true, &[0]),
+    ("judge", true, &[0, 1, 17, 18]),
+    ("search", true, &[0, 1, 2, 20, 25]),
+    ("encode", true, &[0, 19, 20]),
+    ("assign", true, &[0, 1, 19, 21, 22]),
+    ("import", false, &[0, 12, 20, 26, 27, 28]),
 ];
 
 #[test]
@@ -30,10 +31,10 @@ fn no_difference() {
     });
     let rows: Vec<Vec<u64>> = rows.collect();
     let numbers: Vec<u64> = rows.iter().map(|row| row[0]).collect();
-    assert_eq!(numbers, (0..=2).chain(10..=25).collect::<Vec<_>>());
+    assert_eq!(numbers, (0..=2).chain(10..=28).collect::<Vec<_>>());
     for row in &rows {
-        for ((call, others), &count) in CALLS.iter().zip(&row[1..]) {
-            let gives = BOOK.contains(&row[0]) || others.contains(&row[0]);
+        for ((call, on_a_book, others), &count) in CALLS.iter().zip(&row[1..]) {
+            let gives = (*on_a_book && BOOK.contains(&row[0])) || others.contains(&row[0]);
             assert_eq!(count > 0, gives, "{call} gives {} {count} times", row[0]);
         }
     }

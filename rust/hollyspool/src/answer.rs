@@ -11,7 +11,7 @@ use crate::refusal::Refusal;
 #[derive(Clone, Copy, Debug, PartialEq, Eq)]
 #[repr(C)]
 pub struct Answer {
-    /// 0 to 2, or the number of a refusal, 10 to 25.
+    /// 0 to 2, or the number of a refusal, 10 to 28.
     pub number: u64,
     /// The entry, the node or the byte that a refusal names, from 0, or the variable, from 1;
     /// otherwise 0.

@@ -4,11 +4,16 @@ use std::error::Error;
 use std::fmt;
 
 use crate::bounds::Bounds;
+use crate::calls::MOST_BOOK;
 use crate::formula::Formula;
+use crate::names::names;
 use crate::refusal::Refusal;
 
 /// The most nodes that a formula in a book has.
 pub const MOST_NODES: usize = 64;
+
+/// The bytes before a formula: contents and bounds.
+const HEAD: usize = 14;
 
 /// A book that the reader accepts, with what stands in it.
 #[derive(Clone, Debug, PartialEq, Eq)]
@@ -105,6 +110,32 @@ impl Book {
             bounds,
             formula: read_node(nodes, nodes.len() - 1),
         })
+    }
+
+    /// The book of the formula that a text means, over n locations and with path bound p, and the
+    /// names of its variables, from variable 1's. The proved import reads the text and writes the
+    /// book; the names are those that stand in the text, in their order.
+    ///
+    /// ```
+    /// use hollyspool::{Book, Refusal};
+    ///
+    /// let (book, names) = Book::parse("(sep (pto head x) (ls x sep.nil))", 4, 4)?;
+    /// assert_eq!(names, ["head", "x"]);
+    /// assert_eq!(book.bounds().v, 2);
+    /// let formula = book.formula().with_names(&names).to_string();
+    /// assert_eq!(formula, "head ↦ x * ls(x, nil)");
+    ///
+    /// let refused = Book::parse("(ls x)", 4, 4);
+    /// assert_eq!(refused, Err(Refusal::BadText { byte: 5 }));
+    /// # Ok::<(), Refusal>(())
+    /// ```
+    pub fn parse(text: impl AsRef<[u8]>, n: u64, p: u64) -> Result<(Book, Vec<String>), Refusal> {
+        let text = text.as_ref();
+        let mut book = [0; MOST_BOOK];
+        crate::import(text, n, p, &mut book).settled()?;
+        let formula = usize::from(u16::from_le_bytes([book[9], book[10]]));
+        let book = Book::accept(&book[..HEAD + formula])?;
+        Ok((book, names(text)))
     }
 
     /// Its bytes, as every call takes them.

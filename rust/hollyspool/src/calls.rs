@@ -1,10 +1,13 @@
-//! The six calls. Nothing is checked on this side: the archive takes any bytes.
+//! The seven calls. Nothing is checked on this side: the archive takes any bytes.
 
 use crate::answer::Answer;
 use crate::ffi;
 
 /// The most bytes that an encoding has; an output of this length is never too short for one.
 pub const MOST_ENCODED: usize = 6354;
+
+/// The most bytes that a book has; an output of this length is never too short for an import.
+pub const MOST_BOOK: usize = 206;
 
 /// Accepts a book (number 0) or says why not.
 ///
@@ -90,4 +93,21 @@ pub fn assign(book: &[u8], assignment: &[u8]) -> Answer {
     let (from, length) = (assignment.as_ptr(), assignment.len());
     // SAFETY: as for `judge`.
     unsafe { ffi::hollyspool_assign(book.as_ptr(), book.len(), from, length) }
+}
+
+/// Writes the book of the formula that the text means, over n locations and with path bound p; the
+/// rest of the output stays as it was. The book's own contents say how long it is.
+/// [`Book::parse`](crate::Book::parse) gives the book itself, and the text's names.
+///
+/// ```
+/// let mut out = [7; 18];
+/// assert_eq!(hollyspool::import(b"(pto x x)", 1, 1, &mut out).number, 0);
+/// assert_eq!(out, [2, 1, 11, 0, 3, 0, 2, 14, 0, 3, 0, 1, 1, 1, 3, 1, 1, 7]);
+/// let refused = hollyspool::import(b"(pto x, x)", 1, 1, &mut out);
+/// assert_eq!((refused.number, refused.place), (26, 6));
+/// ```
+pub fn import(text: &[u8], n: u64, p: u64, out: &mut [u8]) -> Answer {
+    let (to, room) = (out.as_mut_ptr(), out.len());
+    // SAFETY: as for `search`.
+    unsafe { ffi::hollyspool_import(text.as_ptr(), text.len(), n, p, to, room) }
 }

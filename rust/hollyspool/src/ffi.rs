@@ -38,4 +38,12 @@ extern "C" {
         assignment: *const u8,
         assignment_len: usize,
     ) -> Answer;
+    pub fn hollyspool_import(
+        text: *const u8,
+        text_len: usize,
+        n: u64,
+        p: u64,
+        out: *mut u8,
+        out_len: usize,
+    ) -> Answer;
 }

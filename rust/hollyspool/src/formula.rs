@@ -1,6 +1,4 @@
-//! Formulas as trees, and their readable notation.
-
-use std::fmt;
+//! Formulas as trees.
 
 /// The variable whose location is always nil's.
 pub const NIL: u8 = 0;
@@ -131,68 +129,7 @@ impl Formula {
     }
 
     /// Whether a sign stands between two formulas.
-    fn joins(&self) -> bool {
+    pub(crate) fn joins(&self) -> bool {
         matches!(self.operator(), 5..=7 | 9 | 10)
-    }
-}
-
-impl fmt::Display for Formula {
-    fn fmt(&self, f: &mut fmt::Formatter<'_>) -> fmt::Result {
-        match self {
-            Formula::Equal(x, y) => write!(f, "{} = {}", Variable(*x), Variable(*y)),
-            Formula::Differ(x, y) => write!(f, "{} ≠ {}", Variable(*x), Variable(*y)),
-            Formula::Points(x, y) => write!(f, "{} ↦ {}", Variable(*x), Variable(*y)),
-            Formula::List(x, y) => write!(f, "ls({}, {})", Variable(*x), Variable(*y)),
-            Formula::And(a, b) => {
-                write!(f, "{} ∧ ", Operand(a))?;
-                // Without brackets it would read as operator 7.
-                match **b {
-                    Formula::Not(_) => write!(f, "({b})"),
-                    _ => write!(f, "{}", Operand(b)),
-                }
-            }
-            Formula::Or(a, b) => write!(f, "{} ∨ {}", Operand(a), Operand(b)),
-            Formula::AndNot(a, b) => write!(f, "{} ∧ ¬{}", Operand(a), Negated(b)),
-            Formula::Not(a) => write!(f, "¬{}", Negated(a)),
-            Formula::Star(a, b) => write!(f, "{} * {}", Operand(a), Operand(b)),
-            Formula::Septraction(a, b) => write!(f, "{} −⊛ {}", Operand(a), Operand(b)),
-        }
-    }
-}
-
-/// A variable by its name.
-pub(crate) struct Variable(pub u8);
-
-impl fmt::Display for Variable {
-    fn fmt(&self, f: &mut fmt::Formatter<'_>) -> fmt::Result {
-        match self.0 {
-            NIL => write!(f, "nil"),
-            number => write!(f, "x{number}"),
-        }
-    }
-}
-
-/// A formula beside a sign: another sign in it needs brackets.
-struct Operand<'a>(&'a Formula);
-
-impl fmt::Display for Operand<'_> {
-    fn fmt(&self, f: &mut fmt::Formatter<'_>) -> fmt::Result {
-        if self.0.joins() {
-            write!(f, "({})", self.0)
-        } else {
-            write!(f, "{}", self.0)
-        }
-    }
-}
-
-/// A formula after `¬`: whatever does not begin with a word or another `¬` needs brackets.
-struct Negated<'a>(&'a Formula);
-
-impl fmt::Display for Negated<'_> {
-    fn fmt(&self, f: &mut fmt::Formatter<'_>) -> fmt::Result {
-        match self.0 {
-            Formula::List(..) | Formula::Not(_) => write!(f, "{}", self.0),
-            _ => write!(f, "({})", self.0),
-        }
     }
 }

@@ -3,7 +3,7 @@
 use std::fmt;
 
 use crate::bounds::Bounds;
-use crate::formula::Variable;
+use crate::notation::Variable;
 use crate::refusal::Refusal;
 
 /// What a cell's byte says where no cell is allocated.
@@ -65,17 +65,44 @@ impl Model {
         let cell = |(location, cell): (u8, &Option<u8>)| Some((location, (*cell)?));
         (1..).zip(&self.heap).filter_map(cell)
     }
+
+    /// The model with these names for variables 1, 2, ..; a variable that has none is `x` and its
+    /// number.
+    ///
+    /// ```
+    /// use hollyspool::Model;
+    ///
+    /// let model = Model { stack: vec![2, 1], heap: vec![None, Some(1)] };
+    /// assert_eq!(model.to_string(), "x1=2 x2=1 ; 2→1");
+    /// let names = ["x".to_owned(), "tail".to_owned()];
+    /// assert_eq!(model.with_names(&names).to_string(), "x=2 tail=1 ; 2→1");
+    /// ```
+    pub fn with_names<'a>(&'a self, names: &'a [String]) -> impl fmt::Display + 'a {
+        Named { model: self, names }
+    }
 }
 
 /// Stack ; cells. What is not there is left out: no variables, no cells.
 impl fmt::Display for Model {
     fn fmt(&self, f: &mut fmt::Formatter<'_>) -> fmt::Result {
-        for (variable, location) in (1..).zip(&self.stack) {
-            write!(f, "{}={location} ", Variable(variable))?;
+        write!(f, "{}", self.with_names(&[]))
+    }
+}
+
+/// A model and the names of its variables.
+struct Named<'a> {
+    model: &'a Model,
+    names: &'a [String],
+}
+
+impl fmt::Display for Named<'_> {
+    fn fmt(&self, f: &mut fmt::Formatter<'_>) -> fmt::Result {
+        for (variable, location) in (1..).zip(&self.model.stack) {
+            write!(f, "{}={location} ", Variable(variable, self.names))?;
         }
         write!(f, ";")?;
         let mut before = " ";
-        for (location, value) in self.cells() {
+        for (location, value) in self.model.cells() {
             write!(f, "{before}{location}→{value}")?;
             before = ", ";
         }

@@ -1,4 +1,4 @@
-//! The refusals: what each number from 10 to 25 means.
+//! The refusals: what each number from 10 to 28 means.
 
 use std::error::Error;
 use std::fmt;
@@ -21,7 +21,7 @@ pub enum Refusal {
     BookLength,
     /// 11: contents of other than two entries.
     Contents,
-    /// 12: a bounds body of other than 3 bytes, or a byte over 6.
+    /// 12: a bounds body of other than 3 bytes, or a bound over 6.
     Bounds,
     /// 13: a formula that is empty or no multiple of 3 bytes.
     Formula,
@@ -73,10 +73,26 @@ pub enum Refusal {
         /// The lowest such variable.
         variable: u64,
     },
+    /// 26: a text that is not well-formed.
+    BadText {
+        /// The first byte with which no well-formed text can go on; the length, where the text
+        /// stops early.
+        byte: u64,
+    },
+    /// 27: a text whose formula has more than 64 nodes.
+    ManyNodes {
+        /// The last byte of the item that passes 64.
+        byte: u64,
+    },
+    /// 28: a text with a seventh name.
+    ManyNames {
+        /// Its first byte.
+        byte: u64,
+    },
 }
 
 impl Refusal {
-    /// The refusal behind an answer; none if its number is not 10 to 25.
+    /// The refusal behind an answer; none if its number is not 10 to 28.
     pub fn of(answer: Answer) -> Option<Refusal> {
         let place = answer.place;
         Some(match answer.number {
@@ -96,6 +112,9 @@ impl Refusal {
             23 => Refusal::EntryKind { entry: place },
             24 => Refusal::EntryStretch { entry: place },
             25 => Refusal::StrayVariable { variable: place },
+            26 => Refusal::BadText { byte: place },
+            27 => Refusal::ManyNodes { byte: place },
+            28 => Refusal::ManyNames { byte: place },
             _ => return None,
         })
     }
@@ -119,6 +138,9 @@ impl Refusal {
             Refusal::EntryKind { .. } => 23,
             Refusal::EntryStretch { .. } => 24,
             Refusal::StrayVariable { .. } => 25,
+            Refusal::BadText { .. } => 26,
+            Refusal::ManyNodes { .. } => 27,
+            Refusal::ManyNames { .. } => 28,
         }
     }
 }
@@ -128,7 +150,7 @@ impl fmt::Display for Refusal {
         match self {
             Refusal::BookLength => write!(f, "the book is under 11 or over 206 bytes"),
             Refusal::Contents => write!(f, "the number of entries is not 2"),
-            Refusal::Bounds => write!(f, "the bounds are not three bytes of 0 to 6"),
+            Refusal::Bounds => write!(f, "a bound is over 6, or the bounds are not three bytes"),
             Refusal::Formula => write!(f, "the formula is empty or no multiple of 3 bytes"),
             Refusal::Operator { node } => {
                 write!(f, "the operator of node {node} is not 1 to 10")
@@ -164,6 +186,22 @@ impl fmt::Display for Refusal {
             }
             Refusal::StrayVariable { variable } => {
                 write!(f, "x{variable} is declared, but no atom names it")
+            }
+            Refusal::BadText { byte } => {
+                write!(
+                    f,
+                    "no well-formed text can go on as this one does at byte {byte}"
+                )
+            }
+            Refusal::ManyNodes { byte } => write!(
+                f,
+                "with the item that ends at byte {byte} the formula has more than 64 nodes"
+            ),
+            Refusal::ManyNames { byte } => {
+                write!(
+                    f,
+                    "a seventh name begins at byte {byte}; a text has at most six"
+                )
             }
         }
     }

@@ -43,6 +43,12 @@ pub enum Number {
     EntryStretch = 24,
     /// A declared variable that no atom names.
     StrayVariable = 25,
+    /// A byte with which no well-formed text can go on.
+    BadText = 26,
+    /// More nodes in a text than a book has.
+    ManyNodes = 27,
+    /// More names in a text than a book has variables.
+    ManyNames = 28,
 }
 
 /// The answer of every call.

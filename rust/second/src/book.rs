@@ -26,7 +26,8 @@ pub const BOUNDS: usize = 3;
 /// The bytes of a node.
 const NODE: usize = 3;
 
-const LONGEST: usize = CONTENTS + BOUNDS + NODE * MOST_NODES;
+/// The bytes of the longest book.
+pub const LONGEST: usize = CONTENTS + BOUNDS + NODE * MOST_NODES;
 
 /// How many variables and locations there are, and the path bound.
 #[derive(Clone, Copy, Debug, PartialEq, Eq)]

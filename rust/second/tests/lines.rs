@@ -5,6 +5,7 @@ use second::answer::Answer;
 use second::assign::assign;
 use second::book::{body, read, Bounds};
 use second::encode::encode;
+use second::import::import;
 use second::judge::judge;
 use second::model::Model;
 use second::search::search;
@@ -50,6 +51,11 @@ fn shape_lines() {
     run(Call::Shape);
 }
 
+#[test]
+fn import_lines() {
+    run(Call::Import);
+}
+
 fn run(call: Call) {
     for case in about(call) {
         assert_eq!(outcome(&case), case.outcome, "{}", case.source);
@@ -67,6 +73,10 @@ fn outcome(case: &Case) -> Outcome {
         Call::Encode => answered(encode(&case.book, &mut out), out),
         Call::Assign => answered(assign(&case.book, &case.arg), out),
         Call::Shape => Outcome::of(0, 0, 0, shape(&case.book).into_bytes()),
+        Call::Import => {
+            let [n, p] = [0, 1].map(|bound| case.arg[bound].into());
+            answered(import(&case.book, n, p, &mut out), out)
+        }
     }
 }
 

@@ -1,6 +1,7 @@
 //! The command line, taken apart. Nothing is opened here.
 
-use std::ffi::OsString;
+use std::ffi::{OsStr, OsString};
+use std::path::Path;
 
 /// What is asked.
 #[derive(Clone, Copy, PartialEq, Eq)]
@@ -11,16 +12,18 @@ pub enum Command {
     Assign,
     Explain,
     Draw,
+    Translate,
 }
 
 impl Command {
-    pub const ALL: [Command; 6] = [
+    pub const ALL: [Command; 7] = [
         Command::Search,
         Command::Judge,
         Command::Encode,
         Command::Assign,
         Command::Explain,
         Command::Draw,
+        Command::Translate,
     ];
 
     /// The word for it.
@@ -32,6 +35,7 @@ impl Command {
             Command::Assign => "assign",
             Command::Explain => "explain",
             Command::Draw => "draw",
+            Command::Translate => "translate",
         }
     }
 
@@ -48,8 +52,10 @@ impl Command {
 /// A command with all it needs.
 pub struct Request {
     pub command: Command,
-    /// The book's path, or `-`.
+    /// The path of the book or the text, or `-`.
     pub file: OsString,
+    /// With n and p if it is a text.
+    pub text: Option<Reach>,
     /// The model or the assignment, as hex or `@path`; spaces may have made it several arguments.
     pub bytes: Vec<OsString>,
     pub budget: u64,
@@ -57,6 +63,16 @@ pub struct Request {
     /// The encoding's bytes in place of its rows in words.
     pub raw: bool,
 }
+
+/// How far a text is searched: the bounds that it doesn't give itself.
+#[derive(Clone, Copy)]
+pub struct Reach {
+    pub n: u64,
+    pub p: u64,
+}
+
+/// The n of a text where none is given; p is then the same.
+const USUAL: u64 = 4;
 
 /// What a command line asks for.
 pub enum Parsed {
@@ -91,6 +107,7 @@ fn request(command: Command, args: impl Iterator<Item = OsString>) -> Result<Req
     let name = command.name();
     let mut plain = options.plain.into_iter();
     let file = plain.next().ok_or_else(|| format!("{name} needs a FILE"))?;
+    let text = options.reach.of(command, &file)?;
     let bytes: Vec<OsString> = plain.collect();
     match (command.second(), bytes.first()) {
         (Some(what), None) => Err(format!("{name} needs a FILE and {what}")),
@@ -98,6 +115,7 @@ fn request(command: Command, args: impl Iterator<Item = OsString>) -> Result<Req
         _ => Ok(Request {
             command,
             file,
+            text,
             bytes,
             budget: options.budget,
             json: options.json,
@@ -109,14 +127,40 @@ fn request(command: Command, args: impl Iterator<Item = OsString>) -> Result<Req
 /// The options, and what is none.
 struct Options {
     plain: Vec<OsString>,
+    reach: Given,
     budget: u64,
     json: bool,
     raw: bool,
 }
 
+/// The options of a text.
+#[derive(Default)]
+struct Given {
+    text: bool,
+    n: Option<u64>,
+    p: Option<u64>,
+}
+
+impl Given {
+    /// n and p, if the file is a text.
+    fn of(&self, command: Command, file: &OsStr) -> Result<Option<Reach>, String> {
+        let ends_so = Path::new(file).extension().is_some_and(|end| end == "smt2");
+        if self.text || ends_so || command == Command::Translate {
+            let n = self.n.unwrap_or(USUAL);
+            let p = self.p.unwrap_or(n);
+            return Ok(Some(Reach { n, p }));
+        }
+        match (self.n, self.p) {
+            (None, None) => Ok(None),
+            _ => Err("--n and --p are for a text: a FILE.smt2, or any with --text".to_owned()),
+        }
+    }
+}
+
 fn options(command: Command, mut args: impl Iterator<Item = OsString>) -> Result<Options, String> {
     let mut options = Options {
         plain: Vec::new(),
+        reach: Given::default(),
         budget: u64::MAX,
         json: false,
         raw: false,
@@ -124,7 +168,14 @@ fn options(command: Command, mut args: impl Iterator<Item = OsString>) -> Result
     while let Some(arg) = args.next() {
         match arg.to_str() {
             Some("--budget") if matches!(command, Command::Search | Command::Draw) => {
-                options.budget = number(args.next())?;
+                options.budget = number("--budget", args.next())?;
+            }
+            Some("--text") => options.reach.text = true,
+            Some("--n") if command != Command::Translate => {
+                options.reach.n = Some(number("--n", args.next())?);
+            }
+            Some("--p") if command != Command::Translate => {
+                options.reach.p = Some(number("--p", args.next())?);
             }
             Some("--json") => options.json = true,
             Some("--raw") if command == Command::Encode => options.raw = true,
@@ -137,15 +188,15 @@ fn options(command: Command, mut args: impl Iterator<Item = OsString>) -> Result
     Ok(options)
 }
 
-/// A budget: any 64-bit number.
-fn number(arg: Option<OsString>) -> Result<u64, String> {
-    let arg = arg.ok_or("--budget needs a number")?;
-    arg.to_str()
-        .and_then(|digits| digits.parse().ok())
-        .ok_or_else(|| {
-            format!(
-                "a budget is a number from 0 to 2^64-1, not {}",
-                arg.display()
-            )
-        })
+/// An option's number: any of 64 bits.
+fn number(option: &str, arg: Option<OsString>) -> Result<u64, String> {
+    let arg = arg.ok_or_else(|| format!("{option} needs a number"))?;
+    let digits = arg.to_str().and_then(|digits| digits.parse().ok());
+    let not = || {
+        format!(
+            "{option} needs a number from 0 to 2^64-1, not {}",
+            arg.display()
+        )
+    };
+    digits.ok_or_else(not)
 }

@@ -1,25 +1,35 @@
 //! `encode`: the rows of a formula.
 
-use hollyspool::MOST_ENCODED;
+use hollyspool::{Refusal, MOST_ENCODED};
 
 use crate::args::Request;
 use crate::hex;
-use crate::report::{object, Report};
+use crate::problem::Problem;
+use crate::report::Report;
 use crate::rows::{in_words, ROW};
 
 /// The bytes before the rows: contents and bounds.
 const HEAD: usize = 14;
 
-pub fn run(book: &[u8], request: &Request) -> Report {
+/// For a text, where an equation is an operator 9 that the text doesn't show.
+const HINT: &str = "in a text = and distinct hold on any heap, which takes an operator 9: for \
+                    (not (= x y)) write (distinct x y)";
+
+pub fn run(problem: &Problem, request: &Request) -> Report {
     let mut out = vec![0; MOST_ENCODED];
-    let answer = hollyspool::encode(book, &mut out);
+    let answer = hollyspool::encode(&problem.book, &mut out);
     if let Err(refusal) = answer.settled() {
-        return Report::refused(refusal, answer, request.json);
+        let report = Report::refused(refusal, answer, request.json);
+        return match refusal {
+            Refusal::NotEncodable if request.text.is_some() && !request.json => report.also(HINT),
+            _ => report,
+        };
     }
     out.truncate(written(&out));
     let rows = out[HEAD..].as_chunks::<ROW>().0;
     if request.json {
-        let object = object(answer, "written")
+        let object = problem
+            .object(answer, "written")
             .number("rows", rows.len() as u64)
             .text("encoding", &hex::written(&out, ""));
         return Report::text(0, object.line());
@@ -28,10 +38,10 @@ pub fn run(book: &[u8], request: &Request) -> Report {
         return Report {
             status: 0,
             output: out,
-            note: None,
+            notes: String::new(),
         };
     }
-    let line = |(number, row)| format!("r{number} {}\n", in_words(row));
+    let line = |(number, row)| format!("r{number} {}\n", in_words(row, &problem.names));
     Report::text(0, rows.iter().enumerate().map(line).collect())
 }
 

@@ -4,18 +4,20 @@ use hollyspool::{Book, Bounds, Refusal};
 
 use crate::encode;
 use crate::fault::Fault;
+use crate::problem::Problem;
 use crate::report::{object, Report, REFUSED};
 
-pub fn run(book: &[u8], json: bool) -> Report {
+pub fn run(problem: &Problem, json: bool) -> Report {
+    let book = &problem.book;
     match (Book::accept(book), json) {
-        (Ok(book), false) => Report::text(0, accepted(&book)),
-        (Ok(book), true) => Report::text(0, accepted_in_json(&book)),
+        (Ok(book), false) => Report::text(0, accepted(problem, &book)),
+        (Ok(book), true) => Report::text(0, accepted_in_json(problem, &book)),
         (Err(refusal), false) => Report::text(REFUSED, refused(book, refusal)),
         (Err(refusal), true) => Report::text(REFUSED, refused_in_json(book, refusal)),
     }
 }
 
-fn accepted(book: &Book) -> String {
+fn accepted(problem: &Problem, book: &Book) -> String {
     let Bounds { v, n, p } = book.bounds();
     let rows = match encode::count(book.bytes()) {
         Some(count) => count.to_string(),
@@ -23,12 +25,23 @@ fn accepted(book: &Book) -> String {
     };
     format!(
         "formula  {}\nnodes    {}\nbounds   v = {v}, n = {n}, p = {p}\n\
-         T        {} candidates\nrows     {rows}\n{}",
-        book.formula(),
+         T        {} candidates\nrows     {rows}\n{}{}",
+        book.formula().with_names(&problem.names),
         book.formula().nodes(),
         book.bounds().candidates(),
         stray(book),
+        names(problem),
     )
+}
+
+/// A line on which variable each name of a text is, if there are any.
+fn names(problem: &Problem) -> String {
+    let number = |(variable, name): (usize, &String)| format!("{name} is {variable}");
+    let names: Vec<String> = (1..).zip(&problem.names).map(number).collect();
+    match &names[..] {
+        [] => String::new(),
+        _ => format!("names    {}\n", names.join(", ")),
+    }
 }
 
 /// A line on the declared variables that no atom names, if there are any.
@@ -41,10 +54,12 @@ fn stray(book: &Book) -> String {
     format!("stray    {names}: declared, but named by no atom; search refuses the book\n")
 }
 
-fn accepted_in_json(book: &Book) -> String {
+fn accepted_in_json(problem: &Problem, book: &Book) -> String {
     let Bounds { v, n, p } = book.bounds();
-    let object = object(hollyspool::read(book.bytes()), "accepted")
-        .text("formula", &book.formula().to_string())
+    let formula = book.formula().with_names(&problem.names).to_string();
+    let object = problem
+        .object(hollyspool::read(book.bytes()), "accepted")
+        .text("formula", &formula)
         .number("nodes", book.formula().nodes() as u64)
         .number("v", v.into())
         .number("n", n.into())

@@ -13,20 +13,26 @@ pub fn about(command: Option<Command>) -> String {
 const OVERVIEW: &str = "\
 hollyspool: a bounded checker for strong-separation logic whose every answer is proved
 
-  hollyspool search FILE [--budget N]    look for a model that fits the book's formula
+  hollyspool search FILE [--budget N]    look for a model that fits the formula
   hollyspool judge FILE MODEL            say whether a model fits
   hollyspool encode FILE [--raw]         give the rows that the formula is encoded as
   hollyspool assign FILE ASSIGNMENT      say whether an assignment satisfies those rows
   hollyspool explain FILE                print the formula, the bounds and T, or why it is refused
   hollyspool draw FILE [--budget N]      draw the model that is found, as Graphviz DOT
+  hollyspool translate FILE              print the body that a whole SMT-LIB file becomes
 
 hollyspool COMMAND --help says more of a command.
 ";
 
 const COMMON: &str = "
-FILE is the path of a book, or - for standard input. MODEL and ASSIGNMENT are hex digits, with or
-without spaces, or @PATH for a file of bytes. --json prints one JSON object on standard output,
-whatever the answer is; bytes are hex digits in it.
+FILE is the path of a text or a book, or - for standard input. It is a text if it ends in .smt2, or
+with --text: a formula such as (sep (pto x y) (ls y sep.nil)). A text says nothing of how far to
+look; --n N gives the number of locations besides nil (4 if it is left out), and --p P the most
+links of a list (n if it is left out), each up to 6. A whole SMT-LIB file, with (assert ..), is
+translated into such a text first. The text is read by a proved call; the translation is not proved.
+
+MODEL and ASSIGNMENT are hex digits, with or without spaces, or @PATH for a file of bytes. --json
+prints one JSON object on standard output, whatever the answer is; bytes are hex digits in it.
 ";
 
 const STATUS: &str = "
@@ -42,6 +48,7 @@ fn usage(command: Command) -> &'static str {
         Command::Assign => ASSIGN,
         Command::Explain => EXPLAIN,
         Command::Draw => DRAW,
+        Command::Translate => TRANSLATE,
     }
 }
 
@@ -49,8 +56,8 @@ const SEARCH: &str = "\
 hollyspool search FILE [--budget N] [--json]
 
 Tries the candidates in their order, the first N of them or all, and prints the lowest that fits.
-\"None\" speaks of the book's bounds: no model with v variables, n locations and lists of at most p
-links fits. A book with a declared variable that no atom names is refused.
+\"None\" speaks of the bounds: no model with v variables, n locations and lists of at most p links
+fits. It is never unsat. A book with a declared variable that no atom names is refused.
 
 A search that takes over a second reports on standard error. The search itself is one proved call
 and can't be looked into, so while it runs the candidates a second are measured on the side, by a
@@ -62,14 +69,14 @@ const JUDGE: &str = "\
 hollyspool judge FILE MODEL [--json]
 
 A model is v bytes, each variable's location (0 to n), and then n bytes, the value at each location
-from 1 (0 to n, or ff for unallocated).
+from 1 (0 to n, or ff for unallocated). The variables of a text are its names, as they first appear.
 ";
 
 const ENCODE: &str = "\
 hollyspool encode FILE [--raw] [--json]
 
-Prints the rows in words, a row a line: x is a variable, A an array, S a set, r an earlier row.
---raw prints the encoding's bytes instead.
+Prints the rows in words, a row a line: x is a variable, A an array, S a set, r an earlier row; the
+variables of a text have its names. --raw prints the encoding's bytes instead.
 ";
 
 const ASSIGN: &str = "\
@@ -85,7 +92,8 @@ hollyspool explain FILE [--json]
 Prints the formula in readable notation, the bounds, T (the number of candidates), the number of
 rows of the encoding, and stray variables if there are any: variables from 1 to v that no atom
 names. The book is accepted all the same, but search refuses it. For a book that is refused: the
-number, what it means, the byte that it points at, what stands there and what should.
+number, what it means, the byte that it points at, what stands there and what should. For a text:
+its names with their variables, or the line and column where it is refused and what was expected.
 ";
 
 const DRAW: &str = "\
@@ -94,4 +102,18 @@ hollyspool draw FILE [--budget N] [--json]
 Searches as search does and prints the model as a digraph: a node for each location, with the
 variables that are there; nil is a box, and what is not allocated is dashed. For a picture:
 hollyspool draw FILE | dot -Tsvg > model.svg
+";
+
+const TRANSLATE: &str = "\
+hollyspool translate FILE [--json]
+
+Prints the text that a whole SMT-LIB file becomes, which is what every other command reads of it.
+It takes set-logic, set-info, declare-sort, declare-heap, declare-const, declare-fun, define-fun,
+several assert, check-sat and get-model; and, or and sep over any number of formulas, true, false,
+=>, xor, ite, let, and the spellings of nil and emp. A constant that is declared and not used gets
+(= z z), so that its location stays named. = and distinct hold on any heap. Names that a text can't
+have become a, b, ..; answers have the file's own. What it doesn't know it refuses, with line and
+column.
+
+The translation is not proved: read the text, and believe that.
 ";

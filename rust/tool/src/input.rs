@@ -11,15 +11,32 @@ const ENOUGH: u64 = 207;
 
 /// The book's bytes, from a path or, for `-`, from standard input.
 pub fn book(file: &OsStr) -> Result<Vec<u8>, String> {
-    let mut book = Vec::new();
+    read(file, ENOUGH)
+}
+
+/// A text, of any length.
+pub fn text(file: &OsStr) -> Result<Vec<u8>, String> {
+    read(file, u64::MAX)
+}
+
+fn read(file: &OsStr, most: u64) -> Result<Vec<u8>, String> {
+    let mut bytes = Vec::new();
     let read = if file == "-" {
-        io::stdin().lock().take(ENOUGH).read_to_end(&mut book)
+        io::stdin().lock().take(most).read_to_end(&mut bytes)
     } else {
-        File::open(file).and_then(|opened| opened.take(ENOUGH).read_to_end(&mut book))
+        File::open(file).and_then(|opened| opened.take(most).read_to_end(&mut bytes))
     };
     match read {
-        Ok(_) => Ok(book),
+        Ok(_) => Ok(bytes),
         Err(error) => Err(format!("can't read {}: {error}", file.display())),
+    }
+}
+
+/// What a file is called in messages.
+pub fn name(file: &OsStr) -> String {
+    match file.to_string_lossy() {
+        dash if dash == "-" => "<stdin>".to_owned(),
+        path => path.into_owned(),
     }
 }
 

@@ -28,6 +28,12 @@ impl Object {
         self.field(name, &format!("[{}]", items.join(",")))
     }
 
+    /// A field that is a list of texts.
+    pub fn texts(self, name: &str, texts: &[String]) -> Object {
+        let items: Vec<String> = texts.iter().map(|text| quoted(text)).collect();
+        self.field(name, &format!("[{}]", items.join(",")))
+    }
+
     /// The object, on a line of its own.
     pub fn line(self) -> String {
         self.0 + "}\n"

@@ -1,8 +1,10 @@
 //! The bench at a terminal. Each command asks the proved calls and puts their answer into words.
 
 mod args;
+mod complaint;
 mod draw;
 mod encode;
+mod expected;
 mod explain;
 mod fault;
 mod help;
@@ -10,15 +12,20 @@ mod hex;
 mod input;
 mod json;
 mod judge;
+mod names;
+mod problem;
 mod progress;
 mod report;
 mod rows;
 mod search;
+mod source;
+mod translate;
 
 use std::io::{self, Write};
 use std::process::ExitCode;
 
 use args::{Command, Parsed, Request};
+use problem::Problem;
 use report::{Report, BAD_ARGUMENTS, NO_OUTPUT};
 
 fn main() -> ExitCode {
@@ -38,22 +45,30 @@ fn main() -> ExitCode {
 
 /// The command's report, or a line that says what is wrong with its arguments.
 fn run(request: &Request) -> Result<Report, String> {
-    let book = input::book(&request.file)?;
-    Ok(match request.command {
-        Command::Search => search::run(&book, request),
-        Command::Judge => judge::model(&book, &input::bytes(&request.bytes)?, request.json),
-        Command::Encode => encode::run(&book, request),
-        Command::Assign => judge::assignment(&book, &input::bytes(&request.bytes)?, request.json),
-        Command::Explain => explain::run(&book, request.json),
-        Command::Draw => draw::run(&book, request),
-    })
+    if request.command == Command::Translate {
+        return translate::run(request);
+    }
+    let problem = match Problem::read(request)? {
+        Ok(problem) => problem,
+        Err(refused) => return Ok(refused),
+    };
+    let report = match request.command {
+        Command::Search => search::run(&problem, request),
+        Command::Judge => judge::model(&problem, &input::bytes(&request.bytes)?, request.json),
+        Command::Encode => encode::run(&problem, request),
+        Command::Assign => {
+            judge::assignment(&problem, &input::bytes(&request.bytes)?, request.json)
+        }
+        Command::Explain => explain::run(&problem, request.json),
+        Command::Draw => draw::run(&problem, request),
+        Command::Translate => unreachable!("it needs no book"),
+    };
+    Ok(problem.noted(report, request))
 }
 
 /// Prints a report, and gives its status unless nobody takes the output.
 fn print(report: &Report) -> ExitCode {
-    if let Some(note) = &report.note {
-        eprintln!("hollyspool: {note}");
-    }
+    eprint!("{}", report.notes);
     let mut out = io::stdout().lock();
     match out.write_all(&report.output).and_then(|()| out.flush()) {
         Ok(()) => ExitCode::from(report.status),

@@ -13,8 +13,8 @@ pub struct Report {
     pub status: u8,
     /// For standard output.
     pub output: Vec<u8>,
-    /// For standard error.
-    pub note: Option<String>,
+    /// Whole lines, for standard error.
+    pub notes: String,
 }
 
 impl Report {
@@ -23,17 +23,13 @@ impl Report {
         Report {
             status,
             output: text.into_bytes(),
-            note: None,
+            notes: String::new(),
         }
     }
 
     /// Words on standard error, where standard output is for something else.
-    pub fn note(status: u8, note: String) -> Report {
-        Report {
-            status,
-            output: Vec::new(),
-            note: Some(note),
-        }
+    pub fn note(status: u8, note: &str) -> Report {
+        Report::text(status, String::new()).also(note)
     }
 
     /// A refusal.
@@ -43,8 +39,14 @@ impl Report {
             Report::text(REFUSED, object.line())
         } else {
             let number = refusal.number();
-            Report::note(REFUSED, format!("refused with {number}: {refusal}"))
+            Report::note(REFUSED, &format!("refused with {number}: {refusal}"))
         }
+    }
+
+    /// The report with a line more on standard error.
+    pub fn also(mut self, note: &str) -> Report {
+        self.notes += &format!("hollyspool: {note}\n");
+        self
     }
 }
 

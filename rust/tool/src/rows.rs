@@ -1,5 +1,7 @@
 //! The rows of an encoding, in words.
 
+use crate::names::variable;
+
 /// The bytes of a row.
 pub const ROW: usize = 10;
 
@@ -22,14 +24,15 @@ const ROWS: [(&str, &str); 12] = [
 
 const CHAIN: u8 = 6;
 
-/// A row, as the encoder writes it.
-pub fn in_words(row: &[u8; ROW]) -> String {
+/// A row, as the encoder writes it, with these names for variables 1, 2, ..
+pub fn in_words(row: &[u8; ROW], names: &[String]) -> String {
     let [operator, k, operands @ ..] = row;
     let (name, kinds) = ROWS[usize::from(*operator) - 1];
     let mut words = name.to_owned();
     for (kind, &pair) in kinds.chars().zip(operands.as_chunks().0) {
         words += &match (kind, u16::from_le_bytes(pair)) {
             ('x', 0) => " nil".to_owned(),
+            ('x', number) => format!(" {}", variable(number.into(), names)),
             (kind, number) => format!(" {kind}{number}"),
         };
     }

@@ -4,8 +4,9 @@ use hollyspool::{Answer, Book, Bounds, Model, Verdict};
 
 use crate::args::Request;
 use crate::hex;
+use crate::problem::Problem;
 use crate::progress;
-use crate::report::{object, status, Report};
+use crate::report::{status, Report};
 
 /// What a search of an accepted book has come to.
 pub struct Outcome {
@@ -17,7 +18,8 @@ pub struct Outcome {
 }
 
 /// The outcome, or the report of the book's refusal.
-pub fn outcome(book: &[u8], request: &Request) -> Result<Outcome, Report> {
+pub fn outcome(problem: &Problem, request: &Request) -> Result<Outcome, Report> {
+    let book = &problem.book;
     let accepted = Book::accept(book)
         .map_err(|refusal| Report::refused(refusal, hollyspool::read(book), request.json))?;
     let bounds = accepted.bounds();
@@ -45,40 +47,54 @@ impl Outcome {
         }
     }
 
-    /// The verdict in a line; none where a model is there to be shown.
-    pub fn without_a_model(&self) -> String {
+    /// The verdict in a line, where there is no model to be shown. "None" speaks of the bounds, so
+    /// for a file that asks check-sat it is not unsat.
+    pub fn without_a_model(&self, problem: &Problem) -> String {
         let Bounds { v, n, p } = self.bounds;
         let tried = self.answer.tried;
         match self.verdict {
             Verdict::Spent => format!("spent: none of the first {tried} candidates fits"),
-            _ => format!("none: nothing fits within the bounds v = {v}, n = {n}, p = {p}"),
+            _ => {
+                let not_unsat = match problem.translated {
+                    Some(_) => "; that is not unsat",
+                    None => "",
+                };
+                format!("none: nothing fits within the bounds v = {v}, n = {n}, p = {p}{not_unsat}")
+            }
         }
     }
 }
 
-pub fn run(book: &[u8], request: &Request) -> Report {
-    match outcome(book, request) {
-        Ok(outcome) if request.json => Report::text(status(outcome.verdict), in_json(&outcome)),
-        Ok(outcome) => Report::text(status(outcome.verdict), in_words(&outcome)),
-        Err(refused) => refused,
-    }
+pub fn run(problem: &Problem, request: &Request) -> Report {
+    let outcome = match outcome(problem, request) {
+        Ok(outcome) => outcome,
+        Err(refused) => return refused,
+    };
+    let text = if request.json {
+        in_json(problem, &outcome)
+    } else {
+        in_words(problem, &outcome)
+    };
+    Report::text(status(outcome.verdict), text)
 }
 
-fn in_words(outcome: &Outcome) -> String {
+fn in_words(problem: &Problem, outcome: &Outcome) -> String {
     let first = match &outcome.model {
         Some(model) => format!(
-            "found: {model}\nmodel {}",
+            "found: {}\nmodel {}",
+            model.with_names(&problem.names),
             hex::written(&model.bytes(), " ")
         ),
-        None => outcome.without_a_model(),
+        None => outcome.without_a_model(problem),
     };
     let (tried, total) = (outcome.answer.tried, outcome.bounds.candidates());
     format!("{first}\ntried {tried} of T = {total}\n")
 }
 
-fn in_json(outcome: &Outcome) -> String {
-    let object =
-        object(outcome.answer, outcome.meaning()).number("total", outcome.bounds.candidates());
+fn in_json(problem: &Problem, outcome: &Outcome) -> String {
+    let object = problem
+        .object(outcome.answer, outcome.meaning())
+        .number("total", outcome.bounds.candidates());
     match &outcome.model {
         Some(model) => object
             .text("model", &hex::written(&model.bytes(), ""))

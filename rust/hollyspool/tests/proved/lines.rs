@@ -23,8 +23,8 @@ fn books_of_all_lines() {
     for case in all() {
         same_reading(&case.book);
         let (number, place) = match (case.call, case.outcome.number) {
-            // These lines' outcomes say nothing of a refusal.
-            (Call::Body | Call::Next | Call::Shape, _) => continue,
+            // These lines' outcomes say nothing of a book's refusal.
+            (Call::Body | Call::Next | Call::Shape | Call::Import, _) => continue,
             (_, number @ (10..=16 | 23 | 24)) => (number, case.outcome.place),
             _ => (0, 0),
         };

@@ -3,3 +3,4 @@
 mod books;
 mod models;
 mod numbers;
+mod samples;

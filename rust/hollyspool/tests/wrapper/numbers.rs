@@ -4,7 +4,7 @@ use std::collections::BTreeSet;
 
 use hollyspool::{Answer, Refusal, Verdict};
 
-/// Numbers 10 to 25 are the refusals, each with words of its own; their place is kept where the
+/// Numbers 10 to 28 are the refusals, each with words of its own; their place is kept where the
 /// number names one.
 #[test]
 fn every_number() {
@@ -16,11 +16,11 @@ fn every_number() {
             tried: 0,
         };
         let refusal = Refusal::of(answer);
-        assert_eq!(refusal.is_some(), (10..=25).contains(&number), "{number}");
+        assert_eq!(refusal.is_some(), (10..=28).contains(&number), "{number}");
         let Some(refusal) = refusal else { continue };
         assert_eq!(refusal.number(), number);
         assert_eq!(answer.settled(), Err(refusal));
-        let names_a_place = matches!(number, 14..=16 | 18 | 22..=25);
+        let names_a_place = matches!(number, 14..=16 | 18 | 22..=28);
         assert_eq!(refusal.to_string().contains('7'), names_a_place, "{number}");
         assert!(words.insert(refusal.to_string()), "{refusal}");
     }

@@ -2,7 +2,15 @@
 
 use crate::run::{run, sample};
 
-const COMMANDS: [&str; 6] = ["search", "judge", "encode", "assign", "explain", "draw"];
+const COMMANDS: [&str; 7] = [
+    "search",
+    "judge",
+    "encode",
+    "assign",
+    "explain",
+    "draw",
+    "translate",
+];
 
 #[test]
 fn bad_arguments() {
@@ -13,11 +21,25 @@ fn bad_arguments() {
         (&["search"], "search needs a FILE"),
         (&["search", book, book], "search takes one FILE, and no"),
         (&["search", book, "--budget"], "--budget needs a number"),
-        (&["search", book, "--budget", "-1"], "a budget is a number"),
+        (
+            &["search", book, "--budget", "-1"],
+            "--budget needs a number from 0",
+        ),
         (
             &["search", book, "--budget", "18446744073709551616"],
-            "a budget is a number",
+            "--budget needs a number from 0",
         ),
+        (&["search", book, "--n", "3"], "--n and --p are for a text"),
+        (&["search", book, "--p", "3"], "--n and --p are for a text"),
+        (&["search", book, "--text", "--n"], "--n needs a number"),
+        (&["search", "a.smt2", "--p", "x"], "--p needs a number"),
+        (&["search", "no.smt2"], "can't read no.smt2"),
+        (&["translate", "no.smt2"], "can't read no.smt2"),
+        (
+            &["translate", book, "--n", "1"],
+            "translate has no option --n",
+        ),
+        (&["translate"], "translate needs a FILE"),
         (&["search", book, "--raw"], "search has no option --raw"),
         (&["judge", book], "judge needs a FILE and a MODEL"),
         (&["judge", book, "0"], "0 is not two hex digits a byte"),

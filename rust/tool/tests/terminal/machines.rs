@@ -5,7 +5,7 @@ use std::collections::BTreeMap;
 use crate::json::{parse, Json};
 use crate::run::{run, run_on, sample, Run, P1, STRAY};
 
-fn fields(run: &Run) -> BTreeMap<String, Json> {
+pub fn fields(run: &Run) -> BTreeMap<String, Json> {
     assert_eq!(run.err, "");
     match parse(&run.out) {
         Json::Object(fields) => fields,

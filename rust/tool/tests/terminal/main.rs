@@ -2,6 +2,7 @@
 
 mod arguments;
 mod books;
+mod complaints;
 mod draw;
 mod explain;
 mod json;
@@ -10,3 +11,5 @@ mod page;
 mod progress;
 mod run;
 mod statuses;
+mod texts;
+mod whole_files;

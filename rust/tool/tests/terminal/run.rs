@@ -22,8 +22,8 @@ pub fn run(args: &[&str]) -> Run {
     run_on(&[], args)
 }
 
-/// Runs the tool with a book on standard input.
-pub fn run_on(book: &[u8], args: &[&str]) -> Run {
+/// Runs the tool with a book or a text on standard input.
+pub fn run_on(input: &[u8], args: &[&str]) -> Run {
     let mut child = tool(args)
         .stdin(Stdio::piped())
         .stdout(Stdio::piped())
@@ -32,7 +32,7 @@ pub fn run_on(book: &[u8], args: &[&str]) -> Run {
         .expect("the tool starts");
     let mut pipe = child.stdin.take().expect("it has a standard input");
     // Where the arguments are bad it doesn't read.
-    let _ = pipe.write_all(book);
+    let _ = pipe.write_all(input);
     drop(pipe);
     let output = child.wait_with_output().expect("it ends");
     let text = |bytes| String::from_utf8(bytes).expect("it prints UTF-8");
@@ -46,6 +46,11 @@ pub fn run_on(book: &[u8], args: &[&str]) -> Run {
 /// The path of a sample book.
 pub fn sample(name: &str) -> String {
     format!("{}/../../books/{name}.book", env!("CARGO_MANIFEST_DIR"))
+}
+
+/// The path of a sample text.
+pub fn sample_text(name: &str) -> String {
+    format!("{}/../../texts/{name}.smt2", env!("CARGO_MANIFEST_DIR"))
 }
 
 /// x2 ↦ nil, bounds 4 1 1: all variables but x2 are stray.

@@ -1,0 +1,139 @@
+-- What the judge and the search answer for an imported book speaks of the text, in its own words; and more locations lose no
+-- model of it. Assumes nothing.
+use mathlib.Core.Path.{_≡_, sym, _∙_, subst}
+use mathlib.Core.List.{List}
+use mathlib.Core.Logic.{_⊎_, inl, inr, ⊎-elim}
+use Prim.Native.Nat.{ℕ, zero, suc, _+_, _≤_}
+use native.Mathlib.Omega.{arith}
+use lib.ListN.{length}
+use Rattle.logic.specs.declared.Answer.{Answer}
+use Rattle.logic.specs.Numbers.{yes-number, no-number}
+use Rattle.logic.specs.Checks.{Checks, done, check, upto, Passes, Answers}
+use Rattle.logic.specs.CheckLaws.{answers-split, passes-none, passes-more, passes-then}
+use Rattle.logic.specs.Heap.{Map, Stack, Heap}
+use Rattle.logic.specs.Formula.{Form}
+use Rattle.logic.specs.Formula.Form.{same, diff, pts, ls, conj, disj, but, neg, sep, sept}
+use Rattle.logic.specs.Tests.{heapOf}
+use Rattle.logic.specs.Agree.{heapOf-heap}
+use Rattle.logic.specs.Book.{bookChecks, varsOf, locsOf, pathOf, formulaOf, bookFormula, Accepted}
+use Rattle.logic.specs.Model.{stackIn, heapIn, modelChecks, Fits, FitsBook, Verdict, Judges}
+use Rattle.logic.specs.ModelLaws.{model-stack, model-heap}
+use Rattle.logic.specs.Candidates.{total, stackOf}
+use Rattle.logic.specs.CandidateLaws.{stackOf-stack}
+use Rattle.logic.specs.Strays.{NamedByAtom, nameChecks}
+use Rattle.logic.specs.Search.{CandidateFits, Outcome, found, none, spent, roomChecks, searchRest, Searches}
+use Rattle.logic.specs.SearchLaws.{searches-outcome}
+use Rattle.laws.specs.Negations.{NoSeptraction, NoneUnderNegation}
+use Rattle.laws.specs.MoreLocations.{found-never-none}
+use Rattle.grammar.specs.Phrase.{Term, Phrase, emp, join, deny, relate}
+use Rattle.grammar.specs.Phrase.Join.{and-word, or-word, sep-word, wand-word}
+use Rattle.grammar.specs.Phrase.Atom.{equal-word, distinct-word, pto-word, ls-word}
+use Rattle.grammar.specs.Meaning.{namesOf, numberOf, formOf, meaning}
+use Rattle.grammar.specs.SaysLaws.{Iff, says-holds}
+use Rattle.imported.specs.Imported.{namesIn, TextSays, NoWand, Imported}
+
+-- each of two facts follows from the other: then what is answered by the one is answered by the other
+verdict-iff : (P Q : Type 0) (a : Answer) → Iff P Q → Verdict P a → Verdict Q a
+verdict-iff P Q a i v = ⊎-elim (λ u. inl (i .to (u .0), u .1)) (λ u. inr (λ q. u .0 (i .from q), u .1)) v
+
+answers-more : (c : Checks) (R S : Answer → Type 0) (a : Answer) → (Passes c → R a → S a) → Answers c R a → Answers c S a
+unfolding Answers Passes
+answers-more done R S a f q = f tt q
+answers-more (check P m k c) R S a f q = ⊎-elim inl (λ u. inr (u .0, answers-more c R S a (λ p r. f (u .0, p) r) (u .1))) q
+
+outcome-iff : (P Q : ℕ → Type 0) (t b : ℕ) (a : Answer) → ((c : ℕ) → Iff (P c) (Q c)) → Outcome P t b a → Outcome Q t b a
+outcome-iff P Q t b a i (found k q e) = found k (record { candidate = q .0 .candidate; fits = i k .to (q .0 .fits); lower = λ j l y. q .0 .lower j l (i j .from y) }, q .1) e
+outcome-iff P Q t b a i (none q e) = none (λ j l y. q .0 j l (i j .from y), q .1) e
+outcome-iff P Q t b a i (spent q r e) =
+    spent (λ k u. q k (record { candidate = u .0 .candidate; fits = i k .from (u .0 .fits); lower = λ j l y. u .0 .lower j l (i j .to y) }, u .1))
+    (λ u. r (λ j l y. u .0 j l (i j .to y), u .1)) e
+
+-- no variable up to v is stray
+all-named : (f : List ℕ) (v : ℕ) → ((x : ℕ) → 1 ≤ x → x ≤ v → NamedByAtom f x) → Passes (upto (nameChecks f) v)
+unfolding Passes
+all-named f zero q = passes-none (nameChecks f)
+all-named f (suc v) q = passes-more (nameChecks f) v (all-named f v (λ x l h. q x l (omega arith))) (q (suc v) (omega arith) (omega arith), tt)
+
+module _ (s : List ℕ) (n p : ℕ) (F : Phrase) (b : List ℕ) (i : Imported s n p F b) where
+  -- bounds and formula of the book are those of the text
+  as-text : (P : ℕ → ℕ → ℕ → Form → Type 0) → P (varsOf b) (locsOf b) (pathOf b) (bookFormula b) → P (namesIn F) n p (meaning F)
+  as-text P q =
+      subst (λ (G : Form). P (namesIn F) n p G) (i .formula)
+      (subst (λ (k : ℕ). P (namesIn F) n k (bookFormula b)) (i .path)
+      (subst (λ (k : ℕ). P (namesIn F) k (pathOf b) (bookFormula b)) (i .locs)
+      (subst (λ (k : ℕ). P k (locsOf b) (pathOf b) (bookFormula b)) (i .vars) q)))
+
+  meaning-says : (S H : Map) → Stack (namesIn F) n S → Heap n H → Iff (Fits (namesIn F) n p (meaning F) S H) (TextSays n p F S H)
+  meaning-says S H ks kh = let q = says-holds (namesIn F) n p (numberOf (namesOf F)) S (ks .low) F H kh in record { to = q .from; from = q .to }
+
+  -- ---- the judge
+
+  -- it refuses no more than the model, and speaks of the text's formula
+  pub judged-meaning : (m : List ℕ) (r : Answer) → Judges b m r → Answers (modelChecks (namesIn F) n m) (Verdict (Fits (namesIn F) n p (meaning F) (stackIn (namesIn F) m) (heapIn (namesIn F) n m))) r
+  unfolding Judges Accepted
+  judged-meaning m r q =
+      as-text (λ v l k G. Answers (modelChecks v l m) (Verdict (Fits v l k G (stackIn v m) (heapIn v l m))) r)
+      (⊎-elim (λ u. absurd (u .1 (i .accepted))) (λ u. u .1) (answers-split (bookChecks b) (modelChecks (varsOf b) (locsOf b) m) (Verdict (FitsBook b m)) r q))
+
+  -- in the text's own words
+  pub judged-text : (m : List ℕ) (r : Answer) → Judges b m r → Answers (modelChecks (namesIn F) n m) (Verdict (TextSays n p F (stackIn (namesIn F) m) (heapIn (namesIn F) n m))) r
+  judged-text m r q =
+      answers-more (modelChecks (namesIn F) n m) _ (Verdict (TextSays n p F (stackIn (namesIn F) m) (heapIn (namesIn F) n m))) r
+      (λ k u. verdict-iff _ _ r (meaning-says (stackIn (namesIn F) m) (heapIn (namesIn F) n m) (model-stack (namesIn F) n m k) (model-heap (namesIn F) n m k)) u) (judged-meaning m r q)
+
+  -- ---- the search
+
+  -- atoms name every variable, so that 25 never comes, and 20 not where there is room
+  rest-passes : (o : List ℕ) → namesIn F + n ≤ length o → Passes (searchRest b o)
+  unfolding Passes
+  rest-passes o l =
+      passes-then (upto (nameChecks (formulaOf b)) (varsOf b)) (roomChecks b o) (all-named (formulaOf b) (varsOf b) (i .named)) (omega (arith, i .vars, i .locs), tt)
+
+  -- with room for a model it is not refused, and speaks of the text's formula
+  pub searched-meaning : (c : ℕ) (o : List ℕ) (r : Answer) (o′ : List ℕ) → namesIn F + n ≤ length o → Searches b c o r o′ → Outcome (CandidateFits (namesIn F) n p (meaning F)) (total (namesIn F) n) c r
+  searched-meaning c o r o′ l q =
+      as-text (λ v l k G. Outcome (CandidateFits v l k G) (total v l) c r) (searches-outcome b c o r o′ (i .accepted) (rest-passes o l) q)
+
+  -- in the text's own words
+  pub searched-text : (c : ℕ) (o : List ℕ) (r : Answer) (o′ : List ℕ) → namesIn F + n ≤ length o → Searches b c o r o′
+      → Outcome (λ k. TextSays n p F (stackOf (namesIn F) n k) (heapOf n k)) (total (namesIn F) n) c r
+  searched-text c o r o′ l q =
+      outcome-iff (CandidateFits (namesIn F) n p (meaning F)) (λ k. TextSays n p F (stackOf (namesIn F) n k) (heapOf n k)) (total (namesIn F) n) c r
+      (λ k. meaning-says (stackOf (namesIn F) n k) (heapOf n k) (stackOf-stack (namesIn F) n k) (heapOf-heap n k)) (searched-meaning c o r o′ l q)
+
+-- ---- more locations
+
+no-wand : (ν : Term → ℕ) (F : Phrase) → NoWand F → NoSeptraction (formOf ν F)
+unfolding NoWand NoSeptraction formOf
+no-wand ν emp q = tt
+no-wand ν (join and-word F G) q = (no-wand ν F (q .0), no-wand ν G (q .1))
+no-wand ν (join or-word F G) q = (no-wand ν F (q .0), no-wand ν G (q .1))
+no-wand ν (join sep-word F G) q = (no-wand ν F (q .0), no-wand ν G (q .1))
+no-wand ν (join wand-word F G) q = absurd q
+no-wand ν (deny F) q = no-wand ν F q
+no-wand ν (relate equal-word x y) q = (tt, tt)
+no-wand ν (relate distinct-word x y) q = (tt, tt)
+no-wand ν (relate pto-word x y) q = tt
+no-wand ν (relate ls-word x y) q = tt
+
+-- where no septraction stands, none stands under a negation
+none-under : (F : Form) → NoSeptraction F → NoneUnderNegation F
+unfolding NoSeptraction NoneUnderNegation
+none-under (same x y) q = tt
+none-under (diff x y) q = tt
+none-under (pts x y) q = tt
+none-under (ls x y) q = tt
+none-under (conj a b) q = (none-under a (q .0), none-under b (q .1))
+none-under (disj a b) q = (none-under a (q .0), none-under b (q .1))
+none-under (but a b) q = (none-under a (q .0), q .1)
+none-under (neg a) q = q
+none-under (sep a b) q = (none-under a (q .0), none-under b (q .1))
+none-under (sept a b) q = absurd q
+
+-- a text without `wand` that is found at n is never none at a larger n
+pub text-never-none : (s : List ℕ) (n n′ p : ℕ) (F : Phrase) (b b′ : List ℕ) → n ≤ n′ → Imported s n p F b → Imported s n′ p F b′ → NoWand F
+    → (c c′ : ℕ) (o o′ x x′ : List ℕ) (a a′ : Answer) → Searches b c o a x → a .number ≡ yes-number → Searches b′ c′ o′ a′ x′ → ¬ (a′ .number ≡ no-number)
+text-never-none s n n′ p F b b′ l i j w c c′ o o′ x x′ a a′ q e r =
+    found-never-none b b′
+    (record { vars = i .vars ∙ sym (j .vars); path = i .path ∙ sym (j .path); formula = i .table ∙ sym (j .table); locs = omega (arith, l, i .locs, j .locs) })
+    (subst NoneUnderNegation (sym (i .formula)) (none-under (meaning F) (no-wand (numberOf (namesOf F)) F w))) c c′ o o′ x x′ a a′ q e r

@@ -1,0 +1,5 @@
+pub mod Named
+pub mod NamedLaws
+pub mod Imported
+pub mod ImportedLaws
+pub mod Demands

@@ -1,0 +1,4 @@
+pub mod Letters
+pub mod LetterLaws
+pub mod Terms
+pub mod TermLaws

@@ -1,0 +1,1 @@
+(sep (pto x y) (ls y x))

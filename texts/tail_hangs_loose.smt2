@@ -1,0 +1,3 @@
+(and (distinct x tail)
+     (and (distinct tail sep.nil)
+          (ls x tail)))
