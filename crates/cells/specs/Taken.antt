@@ -42,7 +42,7 @@ gather-all : all full (λ m. eqb (gatherOf (topsFor m)) m) ≡ true
 unfolding all numOf inPart digit
 gather-all = refl
 
-bytes-all : (x d : ℕ) → all most (λ i. eqb (digit 256 x i) d) ≡ true → (i : ℕ) → i < most → digit 256 x i ≡ d
+pub bytes-all : (x d : ℕ) → all most (λ i. eqb (digit 256 x i) d) ≡ true → (i : ℕ) → i < most → digit 256 x i ≡ d
 bytes-all x d e = is-all (λ i. eqb (digit 256 x i) d) (λ i. digit 256 x i ≡ d) most (λ i _. is-eq (digit 256 x i) d) .to e
 
 low7-at : (i : ℕ) → i < most → digit 256 low7 i ≡ 127

@@ -57,12 +57,15 @@ pub fn node_holds(f: &Table, k: usize, b: &[u64; 5], w: u64) -> bool
 }
 
 // The same for a node that is a child. With two callers `join` is compiled apart, so that an atom saves no registers: all
-// formulas are judged a tenth to a third faster.
+// formulas are judged a tenth to a third faster. A negation is judged here and not there, for the same reason.
 fn child_holds(f: &Table, k: usize, b: &[u64; 5], w: u64) -> bool
     requires { ⌜ Ready (now f) (now b) k × Heap (locsOf (now b)) (cells w) ⌝ }
     ensures { λ r. ⌜ r ≡ truthAt (now (f .entry)) (now (b .entry)) k (cells w) ⌝ }
 {
     let op = f[3 * k];
+    if op == 8 {
+        return !a_holds(f, k, b, w);
+    }
     match op {
         1..=4 => atom(f, k, b, w),
         5..=10 => join(f, k, b, w),

@@ -1,13 +1,14 @@
 -- What the judge has when it asks its core. Assumes nothing: these are definitions.
 use mathlib.Core.List.{List}
 use Prim.Native.Nat.{ℕ, _≤_}
-use Rattle.logic.specs.Checks.{Passes}
+use Rattle.logic.specs.Heap.{Stack, Heap}
 use Rattle.logic.specs.Book.{most, Known}
-use Rattle.logic.specs.Model.{modelChecks}
+use Rattle.cells.specs.Cells.{cells}
 
--- an accepted table of v variables, and a model in range
-pub record Judged (v n : ℕ) (f m : List ℕ) : Type 0 where
+-- an accepted table of v variables, and a stack and a heap in range, packed
+pub record Judged (v n : ℕ) (f : List ℕ) (s w : ℕ) : Type 0 where
   pub table : Known v f
   pub fewVars : v ≤ most
   pub fewLocs : n ≤ most
-  pub model : Passes (modelChecks v n m)
+  pub stack : Stack v n (cells s)
+  pub heap : Heap n (cells w)

@@ -8,7 +8,7 @@ use lib.ListN.{length, getD}
 use Rattle.logic.specs.declared.Answer.{Answer}
 use Rattle.logic.specs.Checks.{Checks, _then_, Passes, Answers}
 use Rattle.logic.specs.CheckLaws.{Yes, passes-of-yes, passes-then, answers-refused, answers-after, answers-other, answers-passed}
-use Rattle.logic.specs.Heap.{Stack, Heap, Map}
+use Rattle.logic.specs.Heap.{Stack, Heap}
 use Rattle.logic.specs.Reflect.{Is}
 use Rattle.logic.specs.Truth.{truth}
 use Rattle.logic.specs.TruthHolds.{truth-holds}
@@ -16,7 +16,7 @@ use Rattle.logic.specs.Formula.{Form}
 use Rattle.logic.specs.Table.{Sound, tree}
 use Rattle.logic.specs.Book.{nodes, root, bookChecks, varsOf, locsOf, Reads, Accepted, Bodies}
 use Rattle.logic.specs.OpenLaws.{vars-low, locs-low, known}
-use Rattle.logic.specs.Model.{modelChecks, stackIn, heapIn, Fits, FitsBook, Verdict, Judges}
+use Rattle.logic.specs.Model.{modelChecks, Fits, FitsBook, Verdict, Judges}
 use Rattle.logic.specs.ModelLaws.{model-stack, model-heap, model-refuses}
 use Rattle.cells.specs.Cells.{cells, Unnamed}
 use Rattle.judge.specs.Setting.{Ready}
@@ -26,8 +26,7 @@ use Rattle.packing.specs.SameTable.{same-tree, same-sound}
 use Rattle.model.specs.Judged.{Judged}
 
 -- the setting of a packed model, and what the core says in it
-module _ (v n p : ℕ) (f t m : List ℕ) (small : (i : ℕ) → getD m i 0 < 256) (same : (i : ℕ) → getD t i 0 ≡ getD f i 0) (j : Judged v n f m)
-    (s w u : ℕ) (es : s ≡ packedFrom false m 0 v 0) (ew : w ≡ packedFrom true m v n 0) (un : Unnamed v n (cells s) u) where
+module _ (v n p : ℕ) (f t : List ℕ) (same : (i : ℕ) → getD t i 0 ≡ getD f i 0) (s w u : ℕ) (j : Judged v n f s w) (un : Unnamed v n (cells s) u) where
   pub ready : Ready t (v ∷ n ∷ p ∷ s ∷ u ∷ []) (length f / 3 - 1)
   ready =
       record {
@@ -35,21 +34,15 @@ module _ (v n p : ℕ) (f t m : List ℕ) (small : (i : ℕ) → getD m i 0 < 25
         sound = let e : nodes f ≡ suc (length f / 3 - 1) = omega (arith, j .table .some) in subst (Sound v t) e (same-sound f t same v (nodes f) (j .table .sound));
         fewVars = omega (arith, j .fewVars);
         fewLocs = omega (arith, j .fewLocs);
-        stack = subst (Stack v n) (sym (packed-stack m small v s es)) (model-stack v n m (j .model));
+        stack = j .stack;
         unnamed = un;
       }
 
-  pub heap-in : Heap n (cells w)
-  heap-in = subst (Heap n) (sym (packed-heap m small v n w ew)) (model-heap v n m (j .model))
-
-  pub core-fits : (r : Bool) → r ≡ truth v n p (tree t (root f)) (cells s) (cells w) → Is r (Fits v n p (tree f (root f)) (stackIn v m) (heapIn v n m))
+  pub core-fits : (r : Bool) → r ≡ truth v n p (tree t (root f)) (cells s) (cells w) → Is r (Fits v n p (tree f (root f)) (cells s) (cells w))
   core-fits r e =
-      let q : r ≡ truth v n p (tree f (root f)) (stackIn v m) (heapIn v n m) =
-      e ∙ ap (λ (F : Form). truth v n p F (cells s) (cells w)) (same-tree f t same (root f))
-      ∙ ap (λ (x : Map). truth v n p (tree f (root f)) x (cells w)) (packed-stack m small v s es)
-      ∙ ap (λ (x : Map). truth v n p (tree f (root f)) (stackIn v m) x) (packed-heap m small v n w ew) in
-      subst (λ (b : Bool). Is b (Fits v n p (tree f (root f)) (stackIn v m) (heapIn v n m))) (sym q)
-      (truth-holds v n p (stackIn v m) (model-stack v n m (j .model) .low) (tree f (root f)) (heapIn v n m) (model-heap v n m (j .model)))
+      let q : r ≡ truth v n p (tree f (root f)) (cells s) (cells w) = e ∙ ap (λ (F : Form). truth v n p F (cells s) (cells w)) (same-tree f t same (root f)) in
+      subst (λ (b : Bool). Is b (Fits v n p (tree f (root f)) (cells s) (cells w))) (sym q)
+      (truth-holds v n p (cells s) (j .stack .low) (tree f (root f)) (cells w) (j .heap))
 
 -- ---- the judge's answer, from the answers of its steps
 
@@ -71,14 +64,22 @@ module _ (s f m : List ℕ) (v n p : ℕ) (q : Bodies s f v n p) where
       answers-after (bookChecks s) (modelChecks (varsOf s) (locsOf s) m) (Verdict (FitsBook s m)) a (q .accepted)
       (subst (λ (c : Checks). Answers c (Verdict (FitsBook s m)) a) same-checks (answers-other (modelChecks v n m) (Verdict (FitsBook s m)) a r w))
 
-  module _ (pm : Passes (modelChecks v n m)) where
-    pub judged : Judged v n f m
-    judged = record { table = known s f v n p q; fewVars = vars-low s f v n p q; fewLocs = locs-low s f v n p q; model = pm }
+  -- its bytes, packed
+  module _ (small : (i : ℕ) → getD m i 0 < 256) (pm : Passes (modelChecks v n m)) (st w : ℕ) (es : st ≡ packedFrom false m 0 v 0) (ew : w ≡ packedFrom true m v n 0) where
+    pub judged : Judged v n f st w
+    judged =
+        record {
+          table = known s f v n p q;
+          fewVars = vars-low s f v n p q;
+          fewLocs = locs-low s f v n p q;
+          stack = subst (Stack v n) (sym (packed-stack m small v st es)) (model-stack v n m pm);
+          heap = subst (Heap n) (sym (packed-heap m small v n w ew)) (model-heap v n m pm);
+        }
 
-    pub judges-verdict : (a : Answer) → Verdict (Fits v n p (tree f (root f)) (stackIn v m) (heapIn v n m)) a → Judges s m a
+    pub judges-verdict : (a : Answer) → Verdict (Fits v n p (tree f (root f)) (cells st) (cells w)) a → Judges s m a
     unfolding Judges Accepted
     judges-verdict a d =
-        let same : Fits v n p (tree f (root f)) (stackIn v m) (heapIn v n m) ≡ FitsBook s m = rw (q .vars, q .locs, q .path, q .formula) in
+        let same : Fits v n p (tree f (root f)) (cells st) (cells w) ≡ FitsBook s m = rw (packed-stack m small v st es, packed-heap m small v n w ew, q .vars, q .locs, q .path, q .formula) in
         answers-passed (bookChecks s then modelChecks (varsOf s) (locsOf s) m) (Verdict (FitsBook s m)) a
         (passes-then (bookChecks s) (modelChecks (varsOf s) (locsOf s) m) (q .accepted) (subst Passes same-checks pm))
         (subst (λ (P : Type 0). Verdict P a) same d)

@@ -5,24 +5,22 @@ use contents::part;
 use judge::node_holds;
 use leaves::answer_of;
 use logic::Answer;
-use packing::packed;
 use packing::table_of;
-use ranges::in_range;
+use ranges::pack;
 ghost use Rattle.logic.specs.Reflect.{Is};
 ghost use Rattle.logic.specs.Table.{tree};
 ghost use Rattle.logic.specs.Book.{root};
-ghost use Rattle.logic.specs.Model.{stackIn, heapIn, Fits, Judges};
+ghost use Rattle.logic.specs.Model.{Fits, Judges};
+ghost use Rattle.cells.specs.Cells.{cells};
 ghost use Rattle.model.specs.Judged.{Judged};
 
-// Whether a model that is in range fits the formula.
-fn fits(f: &[u8], v: u64, n: u64, p: u64, model: &[u8]) -> bool
-    requires { ⌜ Judged v n (now f) (now model) ⌝ }
-    ensures { λ r. ⌜ Is r (Fits v n p (tree (now (f .entry)) (root (now (f .entry)))) (stackIn v (now (model .entry))) (heapIn v n (now (model .entry)))) ⌝ }
+// Whether a model that is in range fits the formula: its stack and its heap, packed.
+fn fits(f: &[u8], v: u64, n: u64, p: u64, stack: u64, heap: u64) -> bool
+    requires { ⌜ Judged v n (now f) stack heap ⌝ }
+    ensures { λ r. ⌜ Is r (Fits v n p (tree (now (f .entry)) (root (now (f .entry)))) (cells stack) (cells heap)) ⌝ }
 {
     let table = table_of(f);
     let last = f.len() / 3 - 1;
-    let stack = packed(model, 0, v as usize, false);
-    let heap = packed(model, v as usize, n as usize, true);
     let setting = [v, n, p, stack, unnamed(v, n, stack)];
     node_holds(&table, last, &setting, heap)
 }
@@ -39,11 +37,12 @@ pub fn judge(book: &[u8], model: &[u8]) -> Answer
     let f = part(book, 1);
     let v = opened.v;
     let n = opened.n;
-    let second = in_range(v as usize, n as usize, model);
+    let packed = pack(v as usize, n as usize, model);
+    let second = packed.answer;
     if second.number != logic::YES {
         return second;
     }
-    if fits(f, v, n, opened.p, model) {
+    if fits(f, v, n, opened.p, packed.stack, packed.heap) {
         answer_of(logic::YES, 0)
     } else {
         answer_of(logic::NO, 0)

@@ -10,9 +10,12 @@ ghost use Rattle.logic.specs.CheckLaws.{Yes};
 ghost use Rattle.logic.specs.Reflect.{Is};
 ghost use Rattle.logic.specs.Table.{opOf, kindOf, Operand, OperandOk, OperandsOk};
 ghost use Rattle.logic.specs.Book.{nodeChecks, nodes as nodesIn};
+ghost use Rattle.nodes.specs.Kinds.{rows};
 
 // What the operands a and b of operators 1 to 10 are: 0 zero, 1 a variable, 2 a child.
-const KINDS: [[u8; 2]; 10] = [
+type Kinds = [[u8; 2]; 10];
+
+const KINDS: Kinds = [
     [1, 1],
     [1, 1],
     [1, 1],
@@ -25,12 +28,13 @@ const KINDS: [[u8; 2]; 10] = [
     [2, 2],
 ];
 
-fn kind(op: u8, side: usize) -> u8
-    requires { ⌜ (1 ≤ op) × (op ≤ 10) × (side < 2) ⌝ }
+// What operand a (side 0) or b (side 1) of that operator is.
+fn kind(kinds: &Kinds, op: u8, side: usize) -> u8
+    requires { ⌜ (now kinds ≡ rows) × (1 ≤ op) × (op ≤ 10) × (side < 2) ⌝ }
     ensures { λ r. ⌜ r ≡ kindOf op side ⌝ }
 {
     let i = (op - 1) as usize;
-    KINDS[i][side]
+    kinds[i][side]
 }
 
 // Whether x may be an operand of that kind at node k.
@@ -45,33 +49,33 @@ fn is_operand(v: u8, k: usize, kind: u8, x: u8) -> bool
 }
 
 // Whether operand a (side 0) or b (side 1) of node k is as it should be.
-fn operand(f: &[u8], v: u8, k: usize, op: u8, side: usize) -> bool
-    requires { ⌜ (3 * k + (1 + side) < length (now f)) × (op ≡ opOf (now f) k) × (1 ≤ op) × (op ≤ 10) × (side < 2) ⌝ }
+fn operand(kinds: &Kinds, f: &[u8], v: u8, k: usize, op: u8, side: usize) -> bool
+    requires { ⌜ (now kinds ≡ rows) × (3 * k + (1 + side) < length (now f)) × (op ≡ opOf (now f) k) × (1 ≤ op) × (op ≤ 10) × (side < 2) ⌝ }
     ensures { λ r. ⌜ Is r (OperandOk v (now (f .entry)) k side) ⌝ }
 {
-    is_operand(v, k, kind(op, side), f[3 * k + (1 + side)])
+    is_operand(v, k, kind(kinds, op, side), f[3 * k + (1 + side)])
 }
 
 // Whether both operands of node k are as they should be.
-fn operands(f: &[u8], v: u8, k: usize, op: u8) -> bool
-    requires { ⌜ (3 * k + 2 < length (now f)) × (op ≡ opOf (now f) k) × (1 ≤ op) × (op ≤ 10) ⌝ }
+fn operands(kinds: &Kinds, f: &[u8], v: u8, k: usize, op: u8) -> bool
+    requires { ⌜ (now kinds ≡ rows) × (3 * k + 2 < length (now f)) × (op ≡ opOf (now f) k) × (1 ≤ op) × (op ≤ 10) ⌝ }
     ensures { λ r. ⌜ Is r (OperandsOk v (now (f .entry)) k) ⌝ }
 {
-    if operand(f, v, k, op, 0) {
-        operand(f, v, k, op, 1)
+    if operand(kinds, f, v, k, op, 0) {
+        operand(kinds, f, v, k, op, 1)
     } else {
         false
     }
 }
 
-fn node(f: &[u8], v: u8, k: usize) -> Answer
-    requires { ⌜ 3 * k + 2 < length (now f) ⌝ }
+fn node(kinds: &Kinds, f: &[u8], v: u8, k: usize) -> Answer
+    requires { ⌜ (now kinds ≡ rows) × (3 * k + 2 < length (now f)) ⌝ }
     ensures { λ r. ⌜ Answers (nodeChecks v (now (f .entry)) k) Yes r ⌝ }
 {
     let op = f[3 * k];
     match op {
         1..=10 => {
-            if !operands(f, v, k, op) {
+            if !operands(kinds, f, v, k, op) {
                 return answer_of(logic::OPERAND, k);
             }
             answer_of(logic::YES, 0)
@@ -80,15 +84,16 @@ fn node(f: &[u8], v: u8, k: usize) -> Answer
     }
 }
 
-// The nodes upwards.
+// The nodes upwards. The table is laid out once, and not anew at each node.
 pub fn nodes(f: &[u8], v: u8) -> Answer
     ensures { λ r. ⌜ Answers (upto (nodeChecks v (now (f .entry))) (nodesIn (now (f .entry)))) Yes r ⌝ }
 {
+    let kinds = KINDS;
     let n = f.len() / 3;
     let mut left = n;
     while 0 < left {
         let k = n - left;
-        let a = node(f, v, k);
+        let a = node(&kinds, f, v, k);
         if a.number != logic::YES {
             return a;
         }

@@ -1,3 +1,4 @@
+pub mod Limits
 pub mod Packing
 pub mod PackingLaws
 pub mod SameTable

@@ -6,6 +6,7 @@ use Prim.Native.Nat.{ℕ, _+_, _-_, _<_, _≤_}
 use lib.ListN.{getD}
 use Rattle.logic.specs.Digits.{numOf}
 use Rattle.logic.specs.Model.{digitOf}
+use Rattle.cells.specs.Cells.{cells}
 
 -- what is packed of a byte: a cell's digit, or a variable's location as it is
 abbrev pub itemOf : Bool → ℕ → ℕ
@@ -24,3 +25,7 @@ packedFrom cell m from count i = numOf 256 (count - i) (λ j. items cell m from 
 pub record Copying (f t : List ℕ) (k : ℕ) : Type 0 where
   pub copied : (i : ℕ) → i < k → getD t i 0 ≡ getD f i 0
   pub free : (i : ℕ) → k ≤ i → getD t i 0 ≡ 0
+
+-- each of the locations or digits that w packs is at most k
+abbrev pub AtMost : ℕ → ℕ → Type 0
+AtMost w k = (ℓ : ℕ) → cells w ℓ ≤ k

@@ -4,8 +4,9 @@ ghost use mathlib.Core.Path.{_≡_};
 ghost use Prim.Native.Nat.{ℕ, _+_, _*_, _≤_, _<_};
 ghost use lib.ListN.{length, getD};
 ghost use Rattle.logic.specs.Book.{mostNodes};
+ghost use Rattle.logic.specs.Reflect.{Is};
 ghost use Rattle.cells.specs.Cells.{most};
-ghost use Rattle.packing.specs.Packing.{itemOf, packedFrom};
+ghost use Rattle.packing.specs.Packing.{itemOf, packedFrom, AtMost};
 
 // A cell's digit, or a variable's location as it is.
 fn item(x: u8, cell: bool) -> u64
@@ -26,6 +27,18 @@ pub fn packed(model: &[u8], from: usize, count: usize, cell: bool) -> u64
         w = w * 256 + item(model[from + i], cell);
     }
     w
+}
+
+// Whether each byte of w is at most k, of all bytes at once: none has a bit in its upper half, and where what k lacks to 15 is
+// added to each, none carries into bit 4.
+pub fn is_at_most(w: u64, k: u64) -> bool
+    requires { ⌜ k < 16 ⌝ }
+    ensures { λ r. ⌜ Is r (AtMost w k) ⌝ }
+{
+    if w & 0xf0f0_f0f0_f0f0_f0f0 != 0 {
+        return false;
+    }
+    (w + (15 - k) * 0x0101_0101_0101_0101) & 0x1010_1010_1010_1010 == 0
 }
 
 // The formula's table with zeros after it, as the judge's core takes it.

@@ -163,7 +163,7 @@ abbrev both-uses : ℕ → both-lts.Claims
 both-uses t = (a-holds-below t, a-holds.Post, b-holds-below t, b-holds.Post)
 
 abbrev child-holds-uses : ℕ → child-holds-lts.Claims
-child-holds-uses t = (atom-reads.Asked, atom-reads.Learnt, join-below t, join.Post)
+child-holds-uses t = (a-holds-below t, a-holds.Post, atom-reads.Asked, atom-reads.Learnt, join-below t, join.Post)
 
 abbrev digit-uses : ℕ → digit-lts.Claims
 digit-uses t = (is-target-reads.Asked, is-target-reads.Learnt, placed-reads.Asked, placed-reads.Learnt, both-below t, both.Post, fill-below t, fill.Post)
@@ -258,23 +258,31 @@ child-holds-mul-op t c = omega (arith, (c .pre .1 .0) .inside)
 child-holds-element-copy-out-op : (t : ℕ) → child-holds-lts.Need-element-copy-out-op (child-holds-uses t) (child-holds-at t) child-holds.Post
 child-holds-element-copy-out-op t c = omega (arith, (c .pre .1 .0) .inside)
 
-child-holds-atom-requires : (t : ℕ) → child-holds-lts.Need-atom-requires (child-holds-uses t) (child-holds-at t) child-holds.Post
-child-holds-atom-requires t c κs = (omega (arith, c .if2 .taken), c .before .before .before .pre .1 .0, c .before .before .before .pre .1 .1)
-
-child-holds-join-requires : (t : ℕ) → child-holds-lts.Need-join-requires (child-holds-uses t) (child-holds-at t) child-holds.Post
-child-holds-join-requires t c κs = (omega arith, (record { ready = c .before .before .before .before .pre .1 .0; operator = c .before .if2 .left }, c .before .before .before .before .pre .1 .1))
+child-holds-a-holds-requires : (t : ℕ) → child-holds-lts.Need-a-holds-requires (child-holds-uses t) (child-holds-at t) child-holds.Post
+child-holds-a-holds-requires t c κs = (omega arith, (record { ready = c .before .before .pre .1 .0; operator = omega (arith, c .if1 .taken) }, c .before .before .pre .1 .1))
 
 child-holds-returns : (t : ℕ) → child-holds-lts.Need-returns (child-holds-uses t) (child-holds-at t) child-holds.Post
-child-holds-returns t c = c .atom .ensures
+child-holds-returns t c =
+    let b = c .before .before .before in
+    ap not (c .a-holds .ensures) ∙ sym (truth-8 _ _ _ (record { ready = b .pre .1 .0; operator = omega (arith, c .before .if1 .taken) }) _ (c .before .if1 .taken))
+
+child-holds-atom-requires : (t : ℕ) → child-holds-lts.Need-atom-requires (child-holds-uses t) (child-holds-at t) child-holds.Post
+child-holds-atom-requires t c κs = (omega (arith, c .if3 .taken), c .before .before .before .before .pre .1 .0, c .before .before .before .before .pre .1 .1)
+
+child-holds-join-requires : (t : ℕ) → child-holds-lts.Need-join-requires (child-holds-uses t) (child-holds-at t) child-holds.Post
+child-holds-join-requires t c κs = (omega arith, (record { ready = c .before .before .before .before .before .pre .1 .0; operator = c .before .if3 .left }, c .before .before .before .before .before .pre .1 .1))
 
 child-holds-returns-2 : (t : ℕ) → child-holds-lts.Need-returns-2 (child-holds-uses t) (child-holds-at t) child-holds.Post
-child-holds-returns-2 t c = c .join .ensures
+child-holds-returns-2 t c = c .atom .ensures
 
 child-holds-returns-3 : (t : ℕ) → child-holds-lts.Need-returns-3 (child-holds-uses t) (child-holds-at t) child-holds.Post
-child-holds-returns-3 t c = absurd (operator-low _ _ _ (c .before .before .pre .1 .0) (c .if1 .taken))
+child-holds-returns-3 t c = c .join .ensures
 
 child-holds-returns-4 : (t : ℕ) → child-holds-lts.Need-returns-4 (child-holds-uses t) (child-holds-at t) child-holds.Post
-child-holds-returns-4 t c = absurd (operator-high _ _ _ (c .before .before .before .before .pre .1 .0) (c .if3 .left))
+child-holds-returns-4 t c = absurd (operator-low _ _ _ (c .before .before .before .pre .1 .0) (c .if2 .taken))
+
+child-holds-returns-5 : (t : ℕ) → child-holds-lts.Need-returns-5 (child-holds-uses t) (child-holds-at t) child-holds.Post
+child-holds-returns-5 t c = absurd (operator-high _ _ _ (c .before .before .before .before .before .pre .1 .0) (c .if4 .left))
 
 digit-is-target-requires : (t : ℕ) → digit-lts.Need-is-target-requires (digit-uses t) (digit-at t) digit.Post
 digit-is-target-requires t c κs = ((c .pre .1 .2) .meets .small, omega (arith, ((c .pre .1 .0) .ready .fewLocs)))
@@ -494,12 +502,14 @@ pub +a-holds+added+b-holds+both+child-holds+digit+fill+join+serves+split-spec :
     child-holds.Post
     (child-holds-mul-op t)
     (child-holds-element-copy-out-op t)
+    (child-holds-a-holds-requires t)
+    (child-holds-returns t)
     (child-holds-atom-requires t)
     (child-holds-join-requires t)
-    (child-holds-returns t)
     (child-holds-returns-2 t)
     (child-holds-returns-3 t)
-    (child-holds-returns-4 t))
+    (child-holds-returns-4 t)
+    (child-holds-returns-5 t))
     (λ t. digit-lts.spec (digit-uses t) (digit-at t)
     digit.Post
     (digit-is-target-requires t)

@@ -1,6 +1,6 @@
 -- `nodes::nodes` meets its contract. Assumes nothing.
 use borrow.Author.Needs.{needs}
-use mathlib.Core.Path.{_≡_, subst}
+use mathlib.Core.Path.{_≡_, refl, subst}
 use Prim.Native.Nat.{ℕ, suc, _-_, _/_, _≤_}
 use native.Mathlib.Omega.{arith}
 use lib.ListN.{length}
@@ -12,10 +12,10 @@ use Rattle.nodes.proofs.nodes.Statement.{statement}
 use Rattle.nodes.proofs.nodes.Tie as tie
 
 abbrev Inv-loop : tie.InvT-loop
-Inv-loop f v n left₀ left = (left ≤ n) × Passes (upto (nodeChecks v f) (n - left))
+Inv-loop f v kinds n left₀ left = (left ≤ n) × Passes (upto (nodeChecks v f) (n - left))
 
 abbrev μ-loop : tie.MeasureT-loop
-μ-loop f v n left₀ left = left
+μ-loop f v kinds n left₀ left = left
 
 loop-holds : tie.Need-loop-holds Inv-loop μ-loop
 loop-holds c =
@@ -27,14 +27,14 @@ sub-k : tie.Need-sub-k Inv-loop μ-loop
 sub-k c = search needs
 
 node-requires : tie.Need-node-requires Inv-loop μ-loop
-node-requires c κs = omega (arith, c .loop-test .taken)
+node-requires c κs = (refl, omega (arith, c .before .loop-test .taken))
 
 returns : tie.Need-returns Inv-loop μ-loop
 returns c =
-    let a = c .before .before .before .before .before .before .args in
-    let l = c .before .before .before .before .loop in
+    let a = c .before .before .before .before .before .before .before .args in
+    let l = c .before .before .before .before .before .loop in
     let k = length (a .f .now) / 3 - l .left in
-    upto-refused (nodeChecks (a .v) (a .f .now)) _ k _ (omega (arith, c .before .before .before .loop-test .taken)) (l .inv .1) (c .before .before .node .ensures) (c .if1 .taken)
+    upto-refused (nodeChecks (a .v) (a .f .now)) _ k _ (omega (arith, c .before .before .before .before .loop-test .taken)) (l .inv .1) (c .before .before .node .ensures) (c .if1 .taken)
 
 sub-left : tie.Need-sub-left Inv-loop μ-loop
 sub-left c = search needs
@@ -44,11 +44,11 @@ loop-less c = search needs
 
 loop-again : tie.Need-loop-again Inv-loop μ-loop
 loop-again c =
-    let a = c .before .before .before .before .before .before .args in
-    let l = c .before .before .before .before .loop in
+    let a = c .before .before .before .before .before .before .before .args in
+    let l = c .before .before .before .before .before .loop in
     let k = length (a .f .now) / 3 - l .left in
     let ok = passes-of-yes (nodeChecks (a .v) (a .f .now) k) _ (node-refuses (a .v) (a .f .now) k) (c .before .before .node .ensures) (c .if1 .left) in
-    let next : suc k ≡ length (a .f .now) / 3 - (l .left - 1) = omega (arith, c .before .before .before .loop-test .taken) in
+    let next : suc k ≡ length (a .f .now) / 3 - (l .left - 1) = omega (arith, c .before .before .before .before .loop-test .taken) in
     (search needs, subst (λ (j : ℕ). Passes (upto (nodeChecks (a .v) (a .f .now)) j)) next (passes-more (nodeChecks (a .v) (a .f .now)) k (l .inv .1) ok))
 
 answer-of-requires : tie.Need-answer-of-requires Inv-loop μ-loop

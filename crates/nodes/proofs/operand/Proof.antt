@@ -31,7 +31,7 @@ returns c =
     let a = c .before .before .before .before .args in
     let x = getD (a .f .now) (3 * a .k + (1 + a .side)) 0 in
     subst (λ (t : ℕ). Is (c .is-operand .result) (Operand (a .v) (a .k) t x))
-    (c .before .before .kind .ensures ∙ ap (λ (o : ℕ). kindOf o (a .side)) (c .before .before .before .before .pre .1)) (c .is-operand .ensures)
+    (c .before .before .kind .ensures ∙ ap (λ (o : ℕ). kindOf o (a .side)) (c .before .before .before .before .pre .2)) (c .is-operand .ensures)
 
 pub operand-spec : {M : Type 1} → statement M
 operand-spec =
