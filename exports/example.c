@@ -1,4 +1,4 @@
-/* All seven calls on one book: x points to itself, with one variable and one location.
+/* All eight calls on one book: x points to itself, with one variable and one location.
  *
  *     cc -Wall -Wextra -Werror -O2 exports/example.c target/staticlib/libexports.a -o target/example && target/example
  */
@@ -27,6 +27,7 @@ int main(void)
     static const uint8_t assignment[] = {1, 1, 1};
     static const char text[] = "(pto x x)";
     static uint8_t encoding[HOLLYSPOOL_MOST_ENCODED];
+    static uint8_t exported[HOLLYSPOOL_MOST_TEXT + 1];
     uint8_t imported[HOLLYSPOOL_MOST_BOOK];
     uint8_t model[HOLLYSPOOL_MOST_MODEL];
 
@@ -36,6 +37,10 @@ int main(void)
     print_bytes("book", imported, 14 + imported[9] + 256u * imported[10]);
     /* A refusal, for comparison: the text stops before its last bracket. */
     print_answer("import", hollyspool_import(letters, sizeof text - 2, 1, 1, imported, sizeof imported));
+
+    /* And its text again. The output is clear and has a byte more than any text, so that a 0 ends the text. */
+    print_answer("export", hollyspool_export(book, sizeof book, exported, sizeof exported));
+    printf("text: %s\n", (const char *)exported);
 
     print_answer("read", hollyspool_read(book, sizeof book));
     /* A refusal, for comparison: the last byte is missing, so the body of entry 1 runs past the book. */

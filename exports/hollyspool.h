@@ -39,10 +39,11 @@ enum hollyspool_number {
     HOLLYSPOOL_MANY_NAMES = 28        /* text with a seventh name: its first byte */
 };
 
-/* An output of this many bytes is never too short for a search, for an encoding, or for an import. */
+/* An output of this many bytes is never too short for a search, for an encoding, for an import, or for an export. */
 #define HOLLYSPOOL_MOST_MODEL 12
 #define HOLLYSPOOL_MOST_ENCODED 6354
 #define HOLLYSPOOL_MOST_BOOK 206
+#define HOLLYSPOOL_MOST_TEXT 1906
 
 /* What every call but body answers; tried is 0 outside search. */
 typedef struct {
@@ -83,6 +84,11 @@ hollyspool_answer hollyspool_assign(const uint8_t *book, size_t book_length, con
  * for search. */
 hollyspool_answer hollyspool_import(const uint8_t *text, size_t text_length, uint64_t n, uint64_t p, uint8_t *out,
                                     size_t out_length);
+
+/* Writes the text of the book's formula, as import reads it, with the variables v1 to v6. The answer has no length, and no byte
+ * of a text is 0: clear the output first, then read up to its first 0 byte, or to its end. A text that is too deep or too large
+ * to be read back is written all the same. Output bytes change as for search. */
+hollyspool_answer hollyspool_export(const uint8_t *book, size_t book_length, uint8_t *out, size_t out_length);
 
 #ifdef __cplusplus
 }

@@ -17,6 +17,7 @@ use Rattle.logic.specs.Reflect.{Is, is-iff, fails}
 use Rattle.logic.specs.Tests.{pick}
 use Rattle.logic.specs.Table.{opOf, tree}
 use Rattle.logic.specs.Book.{bookFormula, most, varsOf, locsOf, nodes, root, bookChecks, Reads, Accepted, Known, Bodies}
+use Rattle.logic.specs.KnownLaws.{counted}
 use Rattle.logic.specs.OpenLaws.{vars-low, locs-low, known, formula-is}
 use Rattle.logic.specs.Model.{Verdict, stackIn}
 use Rattle.cells.specs.Cells.{cells, Unnamed}
@@ -25,9 +26,9 @@ use Rattle.rows.specs.Table.{arraysIn, setsIn, arrays, sets, table, Encodable}
 use Rattle.rows.specs.LastRow.{satisfies-condition}
 use Rattle.rows.specs.Bounds.{mostArrays, ownArrays, ownSets}
 use Rattle.rows.specs.BoundsLaws.{arrays-add, sets-add}
-use Rattle.rows.specs.Weight.{sum, sum-same, sum-mul}
+use Rattle.logic.specs.Weight.{sum, sum-same, sum-mul}
 use Rattle.rows.specs.Assigned.{assigned, valueChecks, assignmentChecks, SatisfiesBook, assignRest, Assigns}
-use Rattle.encodable.specs.CountingLaws.{counted, arrays-most}
+use Rattle.encodable.specs.CountingLaws.{arrays-most}
 use Rattle.arrays.specs.Unpacked.{Unpacked}
 use Rattle.rowjudge.specs.declared.Setting.{Setting}
 use Rattle.rowjudge.specs.declared.Told.{Told}
@@ -45,13 +46,13 @@ module _ (v : ℕ) (f : List ℕ) (w : Known v f) where
   -- the nodes above 9 make an array each, those above 8 two sets
   pub arrays-are : (r : ℕ) → r ≡ sum (nodes f) (λ k. pick (leb (opOf f k) 9) 0 1) → 1 + r ≡ arrays (tree f (root f))
   unfolding ownArrays
-  arrays-are r e = ap (λ (x : ℕ). 1 + x) (e ∙ sym (counted v f w arraysIn ownArrays arrays-add))
+  arrays-are r e = ap (λ (x : ℕ). 1 + x) (e ∙ sym (counted v f w arraysIn (λ o x y. ownArrays o) arrays-add))
 
   pub sets-are : (r : ℕ) → r ≡ sum (nodes f) (λ k. pick (leb (opOf f k) 8) 0 1) → 1 + 2 * r ≡ sets (tree f (root f))
   unfolding ownSets
   sets-are r e =
       let d : sum (nodes f) (λ k. pick (leb (opOf f k) 8) 0 2) ≡ r * 2 = sum-same (nodes f) (λ k. pick (leb (opOf f k) 8) 0 2) (λ k. pick (leb (opOf f k) 8) 0 1 * 2) (λ k l. two (leb (opOf f k) 8)) ∙ sum-mul (nodes f) 2 (λ k. pick (leb (opOf f k) 8) 0 1) ∙ ap (λ (x : ℕ). x * 2) (sym e) in
-      omega (arith, d, counted v f w setsIn ownSets sets-add)
+      omega (arith, d, counted v f w setsIn (λ o x y. ownSets o) sets-add)
     where
       two : (t : Bool) → pick t 0 2 ≡ pick t 0 1 * 2
       two true = refl

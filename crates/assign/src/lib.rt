@@ -24,7 +24,7 @@ ghost use Rattle.logic.specs.Book.{most, nodes, root};
 ghost use Rattle.rows.specs.Meaning.{Satisfies};
 ghost use Rattle.rows.specs.Table.{table};
 ghost use Rattle.rows.specs.Bounds.{mostArrays, mostSets};
-ghost use Rattle.rows.specs.Weight.{sum};
+ghost use Rattle.logic.specs.Weight.{sum};
 ghost use Rattle.rows.specs.Assigned.{assigned, assignmentChecks, Assigns};
 ghost use Rattle.assign.specs.Judging.{Judging};
 

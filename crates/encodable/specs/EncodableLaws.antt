@@ -11,8 +11,8 @@ use Rattle.logic.specs.Reflect.{Is, is-iff, false-true, fails}
 use Rattle.logic.specs.Table.{opOf, operandOf, atomOf, joinOf, joinFrom5, tree}
 use Rattle.logic.specs.Book.{nodes, Known}
 use Rattle.rows.specs.Table.{Flat, Encodable}
-use Rattle.rows.specs.Operators.{each-atom, each-join}
-use Rattle.encodable.specs.KnownLaws.{operator-some, atom-tree, join-tree}
+use Rattle.logic.specs.Operators.{each-atom, each-join}
+use Rattle.logic.specs.KnownLaws.{operator-some, atom-tree, join-tree}
 
 is-yes : {P : Type 0} → P → Is true P
 is-yes p = record { to = λ e. p; from = λ q. refl }

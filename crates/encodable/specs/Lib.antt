@@ -1,4 +1,2 @@
-pub mod Known
-pub mod KnownLaws
 pub mod EncodableLaws
 pub mod CountingLaws

@@ -3,9 +3,8 @@ use leaves::wide;
 ghost use Prim.Native.Nat.{_<_};
 ghost use Rattle.logic.specs.Reflect.{Is};
 ghost use Rattle.logic.specs.Table.{tree};
-ghost use Rattle.logic.specs.Book.{nodes};
+ghost use Rattle.logic.specs.Book.{nodes, KnownTable};
 ghost use Rattle.rows.specs.Table.{Flat, Encodable};
-ghost use Rattle.encodable.specs.Known.{KnownTable};
 
 // Whether neither operator 9 nor 10 is in the tree of node k.
 fn flat(f: &[u8], k: usize) -> bool

@@ -17,17 +17,18 @@ use Rattle.logic.specs.Reflect.{Is, fails}
 use Rattle.logic.specs.Formula.{Form}
 use Rattle.logic.specs.Table.{opOf, tree}
 use Rattle.logic.specs.Book.{headOf, nodes, root, bookFormula, pathOf, bookChecks, Reads, Accepted, Known, Bodies}
+use Rattle.logic.specs.KnownLaws.{counted}
 use Rattle.logic.specs.OpenLaws.{path-low, known, formula-is}
 use Rattle.rows.specs.declared.Next.{Next}
 use Rattle.rows.specs.Row.{bytesOf}
 use Rattle.rows.specs.Table.{Encodable, start, rowsIn, table}
 use Rattle.rows.specs.TableLaws.{rows-long}
-use Rattle.rows.specs.Weight.{sum}
+use Rattle.logic.specs.Weight.{sum}
 use Rattle.rows.specs.Bounds.{mostRows, ownRows}
 use Rattle.rows.specs.BoundsLaws.{rows-add}
 use Rattle.rows.specs.Output.{outBook, encodingOf, encodeRest, Encodes}
 use Rattle.rows.specs.OutputLaws.{encoding-long}
-use Rattle.encodable.specs.CountingLaws.{counted, rows-most, arrays-most, sets-most}
+use Rattle.encodable.specs.CountingLaws.{rows-most, arrays-most, sets-most}
 use Rattle.rowbytes.specs.Written.{put}
 use Rattle.ownrows.specs.Encoded.{Room, Encoded}
 use Rattle.encoder.specs.Writable.{Writable}
@@ -62,7 +63,7 @@ module _ (p o : ℕ) where
 
 -- the sum over the nodes is the number of rows
 pub rows-are : (v : ℕ) (f : List ℕ) → Known v f → (p r : ℕ) → r ≡ sum (nodes f) (λ k. ownRows p (opOf f k)) → r ≡ rowsIn p (tree f (root f))
-rows-are v f w p r e = e ∙ sym (counted v f w (rowsIn p) (ownRows p) (rows-add p))
+rows-are v f w p r e = e ∙ sym (counted v f w (rowsIn p) (λ o x y. ownRows p o) (rows-add p))
 
 -- ---- the whole book
 

@@ -4,9 +4,8 @@ use mathlib.Core.List.{List}
 use Prim.Native.Nat.{ℕ, _+_, _*_, _≤_}
 use lib.ListN.{length}
 use Rattle.logic.specs.Table.{tree}
-use Rattle.logic.specs.Book.{most, root}
+use Rattle.logic.specs.Book.{most, root, KnownTable}
 use Rattle.rows.specs.Table.{rowsIn}
-use Rattle.encodable.specs.Known.{KnownTable}
 
 -- what `write` is given: a formula of so many rows, and room for its book
 pub record Writable (f : List ℕ) (p r : ℕ) (o : List ℕ) : Type 0 where

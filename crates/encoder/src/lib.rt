@@ -14,11 +14,10 @@ ghost use mathlib.Core.Path.{_≡_};
 ghost use Prim.Native.Nat.{_≤_, _<_};
 ghost use lib.ListN.{length};
 ghost use Rattle.logic.specs.Table.{tree};
-ghost use Rattle.logic.specs.Book.{root};
+ghost use Rattle.logic.specs.Book.{root, KnownTable};
 ghost use Rattle.rows.specs.Table.{rowsIn, table};
 ghost use Rattle.rows.specs.Bounds.{ownRows};
 ghost use Rattle.rows.specs.Output.{outBook, Encodes};
-ghost use Rattle.encodable.specs.Known.{KnownTable};
 ghost use Rattle.rowbytes.specs.Written.{put};
 ghost use Rattle.encoder.specs.Writable.{Writable};
 

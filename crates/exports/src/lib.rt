@@ -7,6 +7,7 @@ ghost use Rattle.logic.specs.Model.{Judges};
 ghost use Rattle.logic.specs.Search.{Searches};
 ghost use Rattle.rows.specs.Assigned.{Assigns};
 ghost use Rattle.rows.specs.Output.{Encodes};
+ghost use Rattle.writing.specs.Writing.{Exports};
 
 #[no_mangle]
 pub extern "C" fn hollyspool_read(book: &[u8]) -> Answer
@@ -55,4 +56,11 @@ pub extern "C" fn hollyspool_import(text: &[u8], n: u64, p: u64, out: &mut [u8])
     ensures { λ r. ⌜ Imports (now (text .entry)) n p (now (out .entry)) r (now (out .exit)) ⌝ }
 {
     import::import(text, n, p, out)
+}
+
+#[no_mangle]
+pub extern "C" fn hollyspool_export(book: &[u8], out: &mut [u8]) -> Answer
+    ensures { λ r. ⌜ Exports (now (book .entry)) (now (out .entry)) r (now (out .exit)) ⌝ }
+{
+    writer::export(book, out)
 }

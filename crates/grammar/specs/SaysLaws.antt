@@ -35,13 +35,13 @@ module _ (v n p : ℕ) (s : Map) where
   unfolding Holds
   beside h A q = (nothing, h, λ ℓ. inr (refl, refl), record { alone = λ ℓ u. u .0 refl; named = λ ℓ u w. absurd (no-locs ℓ u) }, q, λ u. u .0 refl)
 
+  pub sure : ((x : ℕ) → s x ≤ n) → (F : Form) (h : Map) → Heap n h → Holds v n p F s h ⊎ (¬ Holds v n p F s h)
+  sure low F h k = decided (truth v n p F s h) (truth-holds v n p s low F h k)
+
+pub whole-heap : (n : ℕ) (g h u : Map) → Heap n g → Heap n h → Parts g h u → Heap n u
+whole-heap n g h u kg kh q = subst (Heap n) (union-is g h u q) (union-heap n g h kg kh)
+
 module _ (v n p : ℕ) (ν : Term → ℕ) (s : Map) (low : (x : ℕ) → s x ≤ n) where
-  sure : (F : Form) (h : Map) → Heap n h → Holds v n p F s h ⊎ (¬ Holds v n p F s h)
-  sure F h k = decided (truth v n p F s h) (truth-holds v n p s low F h k)
-
-  whole-heap : (g h u : Map) → Heap n g → Heap n h → Parts g h u → Heap n u
-  whole-heap g h u kg kh q = subst (Heap n) (union-is g h u q) (union-heap n g h kg kh)
-
   abbrev Same : Phrase → Type 0
   Same F = (h : Map) → Heap n h → Iff (Says v n p ν s F h) (Holds v n p (formOf ν F) s h)
 
@@ -49,10 +49,10 @@ module _ (v n p : ℕ) (ν : Term → ℕ) (s : Map) (low : (x : ℕ) → s x �
   unfolding Says Holds formOf
   same-wand F G a b h k =
       record {
-        to = λ f q. q .6 (b (q .1) (whole-heap (q .0) h (q .1) (q .2) k (q .3)) .to (f (q .0) (q .1) (q .2) (q .3) (q .4) (a (q .0) (q .2) .from (q .5))));
+        to = λ f q. q .6 (b (q .1) (whole-heap n (q .0) h (q .1) (q .2) k (q .3)) .to (f (q .0) (q .1) (q .2) (q .3) (q .4) (a (q .0) (q .2) .from (q .5))));
         from = λ f g u kg q d x.
-            let hu = whole-heap g h u kg k q in
-            ⊎-elim (λ y. b u hu .from y) (λ z. absurd (f (g, u, kg, q, d, a g kg .to x, z))) (sure (formOf ν G) u hu);
+            let hu = whole-heap n g h u kg k q in
+            ⊎-elim (λ y. b u hu .from y) (λ z. absurd (f (g, u, kg, q, d, a g kg .to x, z))) (sure v n p s low (formOf ν G) u hu);
       }
 
   same-sep : (F G : Phrase) → Same F → Same G → Same (join sep-word F G)

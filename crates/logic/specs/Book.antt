@@ -172,6 +172,10 @@ pub record Known (v : ℕ) (f : List ℕ) : Type 0 where
   pub sound : Sound v f (nodes f)
   pub tree : Tree f (nodes f)
 
+-- the same for code that does not know the number of the variables
+abbrev pub KnownTable : List ℕ → Type 0
+KnownTable f = (v : ℕ) × Known v f
+
 -- the accepted book s has the formula f and the bounds v, n and p
 pub record Bodies (s f : List ℕ) (v n p : ℕ) : Type 0 where
   pub accepted : Accepted s

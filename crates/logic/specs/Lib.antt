@@ -12,6 +12,7 @@ pub mod Agree
 pub mod Chains
 pub mod TruthHolds
 pub mod Book
+pub mod KnownLaws
 pub mod PlacedLaws
 pub mod CheckLaws
 pub mod Model
@@ -20,6 +21,9 @@ pub mod ComputedLaws
 pub mod ModelLaws
 pub mod TableLaws
 pub mod NodeLaws
+pub mod Operators
+pub mod Weight
+pub mod Children
 pub mod Entries
 pub mod BookLaws
 pub mod OpenLaws

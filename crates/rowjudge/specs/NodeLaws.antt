@@ -15,9 +15,9 @@ use Rattle.rows.specs.Assignment.{on}
 use Rattle.rows.specs.Meaning.{Splits, Apart, Same}
 use Rattle.rows.specs.Table.{arraysIn, setsIn}
 use Rattle.rows.specs.Condition.{Condition}
-use Rattle.rows.specs.Operators.{each-atom}
+use Rattle.logic.specs.Operators.{each-atom}
 use Rattle.rows.specs.Sound.{flat}
-use Rattle.encodable.specs.KnownLaws.{atom-tree, join-tree}
+use Rattle.logic.specs.KnownLaws.{atom-tree, join-tree}
 use Rattle.encodable.specs.EncodableLaws.{flat-atoms}
 use Rattle.rowjudge.specs.declared.Setting.{Setting}
 use Rattle.rowjudge.specs.declared.Told.{Told}

@@ -11,8 +11,6 @@ pub mod Symbols
 pub mod PartSets
 pub mod Complete
 pub mod Encoding
-pub mod Operators
-pub mod Weight
 pub mod Bounds
 pub mod BoundsLaws
 pub mod Output

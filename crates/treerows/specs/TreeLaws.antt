@@ -13,7 +13,7 @@ use Rattle.rows.specs.Row.{Row, bytesOf}
 use Rattle.rows.specs.Row.Row.{AND, OR, NOT}
 use Rattle.rows.specs.Table.{arraysIn, setsIn, moved, twoSets, arrayAndSets, after, sepRows, septRows, rowsIn, rowsOf}
 use Rattle.rows.specs.TableLaws.{rows-some, rows-long, trees-long}
-use Rattle.encodable.specs.KnownLaws.{atom-tree, join-tree}
+use Rattle.logic.specs.KnownLaws.{atom-tree, join-tree}
 use Rattle.rowbytes.specs.Written.{put, Puts, Space}
 use Rattle.rowbytes.specs.WrittenLaws.{row-after, puts-as, rows-rows, space-after, space-less}
 use Rattle.ownrows.specs.Encoded.{Room, Encoded}

@@ -11,8 +11,7 @@ use rowbytes::put_or;
 use rows::Next;
 ghost use Prim.Native.Nat.{_≤_, _<_};
 ghost use Rattle.logic.specs.Table.{tree, joinOf};
-ghost use Rattle.logic.specs.Book.{nodes};
-ghost use Rattle.encodable.specs.Known.{KnownTable};
+ghost use Rattle.logic.specs.Book.{nodes, KnownTable};
 ghost use Rattle.ownrows.specs.Encoded.{Room, Encoded};
 ghost use Rattle.treerows.specs.Trees.{Trees as TreesPut, RoomTrees};
 

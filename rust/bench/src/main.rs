@@ -1,6 +1,6 @@
-//! Books read and encoded, models and assignments judged, candidates searched and text read a second, by the proved bench and by
-//! the second one, in one run; how a search's time grows with its budget, and an import's with its text; and how much stack the
-//! proved judge and the proved import take.
+//! Books read and encoded, models and assignments judged, candidates searched, text read and text written a second, by the proved
+//! bench and by the second one, in one run; how a search's time grows with its budget, and an import's with its text; and how
+//! much stack the proved judge, the proved import and the proved export take.
 //!
 //! Both are given the same bytes, book and model anew for each call; there are no buffers to clear.
 //! No model fits any of the formulas, so each is judged to the end. `bench PART` runs one part alone.
@@ -12,6 +12,7 @@ use cases::made::book;
 
 mod stack;
 mod texts;
+mod written;
 
 const BOUNDS: [u8; 3] = [6, 6, 6];
 
@@ -63,14 +64,16 @@ const NESTED: [(&str, u8); 3] = [("¬", 8), ("*", 9), ("−⊛", 10)];
 const SEARCHES: [(u8, u64); 4] = [(1, 200_000), (6, 3_000_000), (6, 3_000_000), (6, 20_000)];
 
 /// The parts, by the word that asks for one alone.
-const PARTS: [(&str, fn()); 7] = [
+const PARTS: [(&str, fn()); 9] = [
     ("read", read),
     ("judge", judged),
     ("search", searched),
     ("encode", encoded),
     ("text", texts::read),
+    ("export", written::write),
     ("stack", depths),
     ("text-stack", texts::depths),
+    ("export-stack", written::depths),
 ];
 
 fn main() {

@@ -12,6 +12,7 @@ pub enum Call {
     Assign,
     Shape,
     Import,
+    Export,
 }
 
 /// An answer and the bytes that came with it.
@@ -114,6 +115,7 @@ fn call_named(word: &str) -> Option<Call> {
         "assign" => Call::Assign,
         "shape" => Call::Shape,
         "import" => Call::Import,
+        "export" => Call::Export,
         _ => return None,
     })
 }

@@ -2,9 +2,11 @@
 
 use hollyspool::Answer;
 use second::book::Book;
+use second::model::Model;
 
 use crate::guarded::Guarded;
 use crate::input::{Input, Text};
+use crate::round_trip::{round_trip, Reading};
 use crate::tally::{Call, Tally};
 
 /// Makes all calls, or says what differs.
@@ -19,8 +21,10 @@ pub fn all(input: &Input, tally: &mut Tally) -> Result<(), String> {
     let proved = hollyspool::assign(book, &input.assignment);
     let second = second::assign::assign(book, &input.assignment);
     same(tally, Call::Assign, proved, second)?;
-    search(input, tally)?;
+    let found = search(input, tally)?;
     encode(input, tally)?;
+    export(input, tally)?;
+    read_back(input, found, tally)?;
     import(&input.text, tally)
 }
 
@@ -42,8 +46,8 @@ fn same(
     Ok(())
 }
 
-/// The search; and what it finds, the judge accepts.
-fn search(input: &Input, tally: &mut Tally) -> Result<(), String> {
+/// The search, and the model that it finds; the judge accepts it.
+fn search(input: &Input, tally: &mut Tally) -> Result<Option<Vec<u8>>, String> {
     let book = &input.book;
     let [mut proved, mut second] = [(); 2].map(|()| Guarded::new(input.model_room));
     let found = hollyspool::search(book, input.budget, proved.out());
@@ -51,12 +55,14 @@ fn search(input: &Input, tally: &mut Tally) -> Result<(), String> {
     same(tally, Call::Search, found, expected)?;
     let length = Book::accept(book).map_or(0, |book| book.bounds.v + book.bounds.n);
     outputs(Call::Search, found, length, &mut proved, &mut second)?;
-    if found.number == 0 {
-        let judged = hollyspool::judge(book, &proved.out()[..length]);
-        let fits = second::answer::Answer::yes_or_no(true);
-        same(tally, Call::Judge, judged, fits)?;
+    if found.number != 0 {
+        return Ok(None);
     }
-    Ok(())
+    let model = proved.out()[..length].to_vec();
+    let judged = hollyspool::judge(book, &model);
+    let fits = second::answer::Answer::yes_or_no(true);
+    same(tally, Call::Judge, judged, fits)?;
+    Ok(Some(model))
 }
 
 fn encode(input: &Input, tally: &mut Tally) -> Result<(), String> {
@@ -67,6 +73,42 @@ fn encode(input: &Input, tally: &mut Tally) -> Result<(), String> {
     same(tally, Call::Encode, encoded, expected)?;
     let length = stated(second.out());
     outputs(Call::Encode, encoded, length, &mut proved, &mut second)
+}
+
+fn export(input: &Input, tally: &mut Tally) -> Result<(), String> {
+    let book = &input.book;
+    let [mut proved, mut second] = [(); 2].map(|()| Guarded::new(input.text_room));
+    let exported = hollyspool::export(book, proved.out());
+    let expected = second::write::export(book, second.out());
+    same(tally, Call::Export, exported, expected)?;
+    let length = Book::accept(book).map_or(0, |book| second::write::text(&book).len());
+    outputs(Call::Export, exported, length, &mut proved, &mut second)
+}
+
+/// The book of an accepted book's text holds on the same models: on the input's, if it is in range,
+/// and on the one that a search found.
+fn read_back(input: &Input, found: Option<Vec<u8>>, tally: &mut Tally) -> Result<(), String> {
+    let Ok(book) = Book::accept(&input.book) else {
+        return Ok(());
+    };
+    let back = match round_trip(&book, &input.book)? {
+        Reading::Whole(back) => back,
+        Reading::NotCompared => {
+            tally.read_back += 1;
+            return Ok(());
+        }
+        Reading::Refused => {
+            tally.not_read_back += 1;
+            return Ok(());
+        }
+    };
+    tally.read_back += 1;
+    let given = Model::accept(book.bounds, &input.model).map(|_| input.model.clone());
+    for model in given.into_iter().chain(found) {
+        let fits = back.fits(&input.book, &model)?;
+        tally.matched[usize::from(fits)] += 1;
+    }
+    Ok(())
 }
 
 /// The import, at times of every beginning of the text as well.

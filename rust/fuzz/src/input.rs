@@ -3,9 +3,11 @@
 use std::fmt;
 
 use cases::random::Random;
+use hollyspool::MOST_TEXT;
 use second::book::{Book, Bounds, BOUNDS, CONTENTS, LONGEST, MOST};
 use second::candidate::count;
 use second::rows::Table;
+use second::write;
 
 use crate::books::{tame, Books};
 use crate::damage::damage;
@@ -26,6 +28,8 @@ pub struct Input {
     pub model_room: usize,
     /// The length of an encoding's output.
     pub encoding_room: usize,
+    /// The length of the output of the book's text.
+    pub text_room: usize,
     pub text: Text,
 }
 
@@ -91,6 +95,7 @@ impl Input {
         let visits = tame(&mut book);
         let accepted = Book::accept(&book).ok();
         let bounds = accepted.map_or_else(|| any_bounds(random), |book| book.bounds);
+        let length = accepted.map_or(MOST_TEXT, |book| write::text(&book).len());
         let table = accepted.and_then(|book| Table::of(&book).ok());
         let (arrays, sets, rows) = table.map_or((1, 1, 1), |table| {
             (table.arrays.into(), table.sets.into(), table.rows.len())
@@ -102,6 +107,7 @@ impl Input {
             budget: budget(random, count(bounds), visits),
             model_room: room(random, bounds.v + bounds.n),
             encoding_room: room(random, 14 + 10 * rows),
+            text_room: room(random, length),
             text: Text::random(random, texts),
             book,
         }

@@ -8,6 +8,7 @@ mod compare;
 mod damage;
 mod guarded;
 mod input;
+mod round_trip;
 mod tally;
 mod texts;
 

@@ -11,18 +11,26 @@ pub enum Call {
     Encode,
     Assign,
     Import,
+    Export,
 }
 
 /// One more than the highest number.
 const NUMBERS: usize = 29;
 
-/// Counts by number and call.
+/// Counts by number and call, and of books that were written and read back.
 #[derive(Default)]
-pub struct Tally([[u64; 6]; NUMBERS]);
+pub struct Tally {
+    numbers: [[u64; 7]; NUMBERS],
+    /// Texts that could be read back, and texts that were too deep or had too many nodes.
+    pub read_back: u64,
+    pub not_read_back: u64,
+    /// Models that both books were judged on and did not fit, or did.
+    pub matched: [u64; 2],
+}
 
 impl Tally {
     pub fn count(&mut self, call: Call, number: u64) {
-        self.0[number as usize][call as usize] += 1;
+        self.numbers[number as usize][call as usize] += 1;
     }
 }
 
@@ -30,9 +38,9 @@ impl fmt::Display for Tally {
     fn fmt(&self, f: &mut fmt::Formatter<'_>) -> fmt::Result {
         write!(
             f,
-            "number      read     judge    search    encode    assign    import"
+            "number      read     judge    search    encode    assign    import    export"
         )?;
-        for (number, counts) in self.0.iter().enumerate() {
+        for (number, counts) in self.numbers.iter().enumerate() {
             if (3..10).contains(&number) {
                 continue;
             }
@@ -41,6 +49,11 @@ impl fmt::Display for Tally {
                 write!(f, "{count:10}")?;
             }
         }
-        Ok(())
+        let ([no, yes], read, not) = (self.matched, self.read_back, self.not_read_back);
+        write!(
+            f,
+            "\ntexts of books: {read} read back, {not} too deep or with too many nodes; \
+             models of both books: {yes} fit, {no} do not"
+        )
     }
 }

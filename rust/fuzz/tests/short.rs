@@ -7,13 +7,14 @@ use std::process::Command;
 const BOOK: [u64; 9] = [10, 11, 12, 13, 14, 15, 16, 23, 24];
 
 /// The calls in the order of the tally: whether it is on a book, and the other numbers it gives.
-const CALLS: [(&str, bool, &[u64]); 6] = [
+const CALLS: [(&str, bool, &[u64]); 7] = [
     ("read", true, &[0]),
     ("judge", true, &[0, 1, 17, 18]),
     ("search", true, &[0, 1, 2, 20, 25]),
     ("encode", true, &[0, 19, 20]),
     ("assign", true, &[0, 1, 19, 21, 22]),
     ("import", false, &[0, 12, 20, 26, 27, 28]),
+    ("export", true, &[0, 20]),
 ];
 
 #[test]
@@ -25,7 +26,8 @@ fn no_difference() {
     let errors = String::from_utf8_lossy(&run.stderr);
     assert!(run.status.success(), "{errors}");
     let text = String::from_utf8_lossy(&run.stdout);
-    let rows = text.lines().skip(2).map(|line| {
+    let (table, texts) = text.trim_end().rsplit_once('\n').expect("lines");
+    let rows = table.lines().skip(2).map(|line| {
         let words = line.split_whitespace();
         words.map(|word| word.parse().expect("a count")).collect()
     });
@@ -43,6 +45,18 @@ fn no_difference() {
         rows.map(|row| row[3]).sum()
     };
     assert!(searches(&[0, 1, 2]) > 5 * searches(&[25]));
+    read_back(texts);
+}
+
+/// Most texts of books are read back, and models of both kinds compared.
+fn read_back(line: &str) {
+    let words = line.split(|c: char| !c.is_ascii_digit());
+    let counts: Vec<u64> = words.filter_map(|word| word.parse().ok()).collect();
+    let [read, not, fit, misfit] = counts[..] else {
+        panic!("not four counts: {line}");
+    };
+    assert!(read > 5 * not && not > 100, "{line}");
+    assert!(fit > 1_000 && misfit > 1_000, "{line}");
 }
 
 #[test]

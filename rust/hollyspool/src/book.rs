@@ -4,7 +4,7 @@ use std::error::Error;
 use std::fmt;
 
 use crate::bounds::Bounds;
-use crate::calls::MOST_BOOK;
+use crate::calls::{MOST_BOOK, MOST_TEXT};
 use crate::formula::Formula;
 use crate::names::names;
 use crate::refusal::Refusal;
@@ -136,6 +136,38 @@ impl Book {
         let formula = usize::from(u16::from_le_bytes([book[9], book[10]]));
         let book = Book::accept(&book[..HEAD + formula])?;
         Ok((book, names(text)))
+    }
+
+    /// The text of its formula, as the proved export writes it: variables are `v1`, `v2`, .., and each
+    /// equation or inequality stands beside `sep.emp`, since in a text it holds on any heap.
+    ///
+    /// Read back at the same n and p, where it is at most 16 deep and makes at most 64 nodes, the
+    /// text holds on exactly the book's models once variables are matched by name, for a book
+    /// without [stray](Book::stray) variables. A text numbers its names as they first appear, so
+    /// the two may number them differently; and a stray variable does not stand in the text at all.
+    ///
+    /// An accepted book always has a text, and [`MOST_TEXT`] bytes are enough for each, so that this
+    /// is never refused; the call it makes could be.
+    ///
+    /// ```
+    /// use hollyspool::{judge, Book, Formula};
+    ///
+    /// let book = Book::new(2, 2, 2, &Formula::Differ(2, 1).star(Formula::Points(2, 1)))?;
+    /// let text = book.text()?;
+    /// assert_eq!(text, "(sep (and (distinct v2 v1) sep.emp) (pto v2 v1))");
+    ///
+    /// let (back, names) = Book::parse(&text, 2, 2)?;
+    /// assert_eq!(names, ["v2", "v1"]);
+    /// // Variable 2 is at location 1, variable 1 at location 2; cell 1 holds 2.
+    /// assert_eq!(judge(book.bytes(), &[2, 1, 2, 255]).number, 0);
+    /// assert_eq!(judge(back.bytes(), &[1, 2, 2, 255]).number, 0);
+    /// # Ok::<(), Box<dyn std::error::Error>>(())
+    /// ```
+    pub fn text(&self) -> Result<String, Refusal> {
+        let mut out = [0; MOST_TEXT];
+        crate::export(&self.bytes, &mut out).settled()?;
+        let text = out.split(|&byte| byte == 0).next().unwrap_or_default();
+        Ok(text.iter().copied().map(char::from).collect())
     }
 
     /// Its bytes, as every call takes them.

@@ -1,4 +1,4 @@
-//! The seven calls. Nothing is checked on this side: the archive takes any bytes.
+//! The eight calls. Nothing is checked on this side: the archive takes any bytes.
 
 use crate::answer::Answer;
 use crate::ffi;
@@ -8,6 +8,10 @@ pub const MOST_ENCODED: usize = 6354;
 
 /// The most bytes that a book has; an output of this length is never too short for an import.
 pub const MOST_BOOK: usize = 206;
+
+/// The most bytes that a text of a book has; an output of this length is never too short for an
+/// export.
+pub const MOST_TEXT: usize = 1906;
 
 /// Accepts a book (number 0) or says why not.
 ///
@@ -110,4 +114,22 @@ pub fn import(text: &[u8], n: u64, p: u64, out: &mut [u8]) -> Answer {
     let (to, room) = (out.as_mut_ptr(), out.len());
     // SAFETY: as for `search`.
     unsafe { ffi::hollyspool_import(text.as_ptr(), text.len(), n, p, to, room) }
+}
+
+/// Writes the text of the book's formula, with variables as `v1`, `v2`, ..; the rest of the output
+/// stays as it was. The answer doesn't say how long the text is, but no byte of it is 0: in an output
+/// that was all 0 before, it ends before the first 0, or with the output.
+/// [`Book::text`](crate::Book::text) gives the text itself.
+///
+/// ```
+/// let p1 = [2, 1, 11, 0, 3, 0, 2, 14, 0, 3, 0, 1, 1, 1, 3, 1, 1];
+/// let mut out = [0; 13];
+/// assert_eq!(hollyspool::export(&p1, &mut out).number, 0);
+/// assert_eq!(&out, b"(pto v1 v1)\0\0");
+/// assert_eq!(hollyspool::export(&p1, &mut out[..10]).number, 20);
+/// ```
+pub fn export(book: &[u8], out: &mut [u8]) -> Answer {
+    let (to, room) = (out.as_mut_ptr(), out.len());
+    // SAFETY: as for `search`.
+    unsafe { ffi::hollyspool_export(book.as_ptr(), book.len(), to, room) }
 }

@@ -46,4 +46,10 @@ extern "C" {
         out: *mut u8,
         out_len: usize,
     ) -> Answer;
+    pub fn hollyspool_export(
+        book: *const u8,
+        book_len: usize,
+        out: *mut u8,
+        out_len: usize,
+    ) -> Answer;
 }

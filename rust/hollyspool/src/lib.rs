@@ -1,9 +1,10 @@
 //! The proved bench, as safe Rust. Documents 01 and 02 say what each call answers; the archive that
 //! is linked here is proved to answer so.
 //!
-//! The seven calls take bytes, any bytes at all, and give an [`Answer`]. Around them stand the
-//! reader of texts ([`Book::parse`]), a builder of books ([`Book::new`]), a way back from a book to
-//! its formula ([`Book::accept`]), and words for every refusal ([`Refusal`]).
+//! The eight calls take bytes, any bytes at all, and give an [`Answer`]. Around them stand the
+//! reader of texts ([`Book::parse`]), the writer of them ([`Book::text`]), a builder of books
+//! ([`Book::new`]), a way back from a book to its formula ([`Book::accept`]), and words for every
+//! refusal ([`Refusal`]).
 //!
 //! ```
 //! use hollyspool::{search, Book, Model, Verdict};
@@ -36,7 +37,9 @@ mod refusal;
 pub use answer::{Answer, Verdict};
 pub use book::{Book, Unwritable, MOST_NODES};
 pub use bounds::Bounds;
-pub use calls::{assign, body, encode, import, judge, read, search, MOST_BOOK, MOST_ENCODED};
+pub use calls::{
+    assign, body, encode, export, import, judge, read, search, MOST_BOOK, MOST_ENCODED, MOST_TEXT,
+};
 pub use formula::{Formula, NIL};
 pub use model::Model;
 pub use refusal::Refusal;

@@ -13,6 +13,8 @@ const OUTPUT: &str = "\
 import: number 0 place 0 tried 0
 book: 02 01 0b 00 03 00 02 0e 00 03 00 01 01 01 03 01 01
 import: number 26 place 8 tried 0
+export: number 0 place 0 tried 0
+text: (pto v1 v1)
 read: number 0 place 0 tried 0
 read: number 24 place 1 tried 0
 body: 01 01 01

@@ -15,3 +15,4 @@ pub mod rows;
 pub mod search;
 pub mod shape;
 pub mod text;
+pub mod write;

@@ -7,6 +7,7 @@ use second::encode::encode;
 use second::judge::judge;
 use second::search::search;
 use second::shape::shape;
+use second::write::export;
 
 #[test]
 fn bytes_that_are_no_book() {
@@ -31,6 +32,7 @@ fn refused(book: &[u8]) {
     assert_eq!(assign(book, book), answer);
     assert_eq!(search(book, u64::MAX, &mut out), answer);
     assert_eq!(encode(book, &mut out), answer);
+    assert_eq!(export(book, &mut out), answer);
     assert_eq!(out, [0xA5; 300]);
     let printed = format!("answer {} place 0 tried 0\n", answer.number);
     assert_eq!(shape(book), printed);

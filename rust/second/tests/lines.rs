@@ -10,6 +10,7 @@ use second::judge::judge;
 use second::model::Model;
 use second::search::search;
 use second::shape::shape;
+use second::write::export;
 
 #[test]
 fn read_lines() {
@@ -56,6 +57,11 @@ fn import_lines() {
     run(Call::Import);
 }
 
+#[test]
+fn export_lines() {
+    run(Call::Export);
+}
+
 fn run(call: Call) {
     for case in about(call) {
         assert_eq!(outcome(&case), case.outcome, "{}", case.source);
@@ -77,6 +83,7 @@ fn outcome(case: &Case) -> Outcome {
             let [n, p] = [0, 1].map(|bound| case.arg[bound].into());
             answered(import(&case.book, n, p, &mut out), out)
         }
+        Call::Export => answered(export(&case.book, &mut out), out),
     }
 }
 

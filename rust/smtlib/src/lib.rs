@@ -2,7 +2,8 @@
 //!
 //! **This is not proved.** What is proved begins at the body that it writes: the bench reads that
 //! text, and nothing else of the file reaches it. The step is one of syntax, and its result is there
-//! to be read: `hollyspool translate FILE` prints the body.
+//! to be read: `hollyspool translate FILE` prints the body. The way back, [`whole_file`], is not proved
+//! either.
 //!
 //! ```
 //! let file = "\
@@ -28,6 +29,7 @@
 #![deny(missing_docs)]
 
 mod cells;
+mod file;
 mod formula;
 mod names;
 mod phrase;
@@ -35,6 +37,7 @@ mod script;
 mod sexp;
 mod written;
 
+pub use file::whole_file;
 pub use script::is_whole_file;
 
 /// The body of a file's assertions.

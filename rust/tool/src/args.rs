@@ -12,17 +12,19 @@ pub enum Command {
     Assign,
     Explain,
     Draw,
+    Text,
     Translate,
 }
 
 impl Command {
-    pub const ALL: [Command; 7] = [
+    pub const ALL: [Command; 8] = [
         Command::Search,
         Command::Judge,
         Command::Encode,
         Command::Assign,
         Command::Explain,
         Command::Draw,
+        Command::Text,
         Command::Translate,
     ];
 
@@ -35,6 +37,7 @@ impl Command {
             Command::Assign => "assign",
             Command::Explain => "explain",
             Command::Draw => "draw",
+            Command::Text => "text",
             Command::Translate => "translate",
         }
     }
@@ -62,6 +65,8 @@ pub struct Request {
     pub json: bool,
     /// The encoding's bytes in place of its rows in words.
     pub raw: bool,
+    /// A whole file in place of the text alone.
+    pub whole: bool,
 }
 
 /// How far a text is searched: the bounds that it doesn't give itself.
@@ -120,6 +125,7 @@ fn request(command: Command, args: impl Iterator<Item = OsString>) -> Result<Req
             budget: options.budget,
             json: options.json,
             raw: options.raw,
+            whole: options.whole,
         }),
     }
 }
@@ -131,6 +137,7 @@ struct Options {
     budget: u64,
     json: bool,
     raw: bool,
+    whole: bool,
 }
 
 /// The options of a text.
@@ -164,6 +171,7 @@ fn options(command: Command, mut args: impl Iterator<Item = OsString>) -> Result
         budget: u64::MAX,
         json: false,
         raw: false,
+        whole: false,
     };
     while let Some(arg) = args.next() {
         match arg.to_str() {
@@ -179,6 +187,7 @@ fn options(command: Command, mut args: impl Iterator<Item = OsString>) -> Result
             }
             Some("--json") => options.json = true,
             Some("--raw") if command == Command::Encode => options.raw = true,
+            Some("--file") if command == Command::Text => options.whole = true,
             Some(option) if option.starts_with('-') && option != "-" => {
                 return Err(format!("{} has no option {option}", command.name()));
             }

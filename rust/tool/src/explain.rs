@@ -6,6 +6,7 @@ use crate::encode;
 use crate::fault::Fault;
 use crate::problem::Problem;
 use crate::report::{object, Report, REFUSED};
+use crate::text;
 
 pub fn run(problem: &Problem, json: bool) -> Report {
     let book = &problem.book;
@@ -25,10 +26,11 @@ fn accepted(problem: &Problem, book: &Book) -> String {
     };
     format!(
         "formula  {}\nnodes    {}\nbounds   v = {v}, n = {n}, p = {p}\n\
-         T        {} candidates\nrows     {rows}\n{}{}",
+         T        {} candidates\nrows     {rows}\ntext     {}\n{}{}",
         book.formula().with_names(&problem.names),
         book.formula().nodes(),
         book.bounds().candidates(),
+        text::of(book),
         stray(book),
         names(problem),
     )
@@ -60,6 +62,7 @@ fn accepted_in_json(problem: &Problem, book: &Book) -> String {
     let object = problem
         .object(hollyspool::read(book.bytes()), "accepted")
         .text("formula", &formula)
+        .text("text", &text::of(book))
         .number("nodes", book.formula().nodes() as u64)
         .number("v", v.into())
         .number("n", n.into())

@@ -19,6 +19,7 @@ hollyspool: a bounded checker for strong-separation logic whose every answer is 
   hollyspool assign FILE ASSIGNMENT      say whether an assignment satisfies those rows
   hollyspool explain FILE                print the formula, the bounds and T, or why it is refused
   hollyspool draw FILE [--budget N]      draw the model that is found, as Graphviz DOT
+  hollyspool text FILE [--file]          print the formula as a text, or as a whole SMT-LIB file
   hollyspool translate FILE              print the body that a whole SMT-LIB file becomes
 
 hollyspool COMMAND --help says more of a command.
@@ -48,6 +49,7 @@ fn usage(command: Command) -> &'static str {
         Command::Assign => ASSIGN,
         Command::Explain => EXPLAIN,
         Command::Draw => DRAW,
+        Command::Text => TEXT,
         Command::Translate => TRANSLATE,
     }
 }
@@ -90,10 +92,11 @@ const EXPLAIN: &str = "\
 hollyspool explain FILE [--json]
 
 Prints the formula in readable notation, the bounds, T (the number of candidates), the number of
-rows of the encoding, and stray variables if there are any: variables from 1 to v that no atom
-names. The book is accepted all the same, but search refuses it. For a book that is refused: the
-number, what it means, the byte that it points at, what stands there and what should. For a text:
-its names with their variables, or the line and column where it is refused and what was expected.
+rows of the encoding, the formula as a text, and stray variables if there are any: variables from 1
+to v that no atom names. The book is accepted all the same, but search refuses it. For a book that
+is refused: the number, what it means, the byte that it points at, what stands there and what
+should. For a text: its names with their variables, or the line and column where it is refused and
+what was expected.
 ";
 
 const DRAW: &str = "\
@@ -102,6 +105,19 @@ hollyspool draw FILE [--budget N] [--json]
 Searches as search does and prints the model as a digraph: a node for each location, with the
 variables that are there; nil is a box, and what is not allocated is dashed. For a picture:
 hollyspool draw FILE | dot -Tsvg > model.svg
+";
+
+const TEXT: &str = "\
+hollyspool text FILE [--file] [--json]
+
+Prints a book's formula as a text, on a line: its variables are v1, v2, .., and (= v1 v2) stands
+beside sep.emp, as in a text it holds on any heap. The text holds on the same models as the book,
+variables matched by name, where every declared variable is named by an atom. Standard error says
+where one is not, and where the text is too deep or has too many nodes to be read back.
+
+--file prints a whole SMT-LIB file that declares v1, v2, .. and asserts the text. That file is not
+proved to mean anything: other tools have an ordinary sep, other bounds or none, and cvc5 has no ls.
+Hollyspool itself reads it back, through translate.
 ";
 
 const TRANSLATE: &str = "\

@@ -19,6 +19,7 @@ mod report;
 mod rows;
 mod search;
 mod source;
+mod text;
 mod translate;
 
 use std::io::{self, Write};
@@ -61,6 +62,7 @@ fn run(request: &Request) -> Result<Report, String> {
         }
         Command::Explain => explain::run(&problem, request.json),
         Command::Draw => draw::run(&problem, request),
+        Command::Text => text::run(&problem, request),
         Command::Translate => unreachable!("it needs no book"),
     };
     Ok(problem.noted(report, request))

@@ -7,8 +7,7 @@ use lib.Dec.{leb}
 use lib.ListN.{length}
 use Rattle.logic.specs.Table.{opOf}
 use Rattle.logic.specs.Tests.{pick}
-use Rattle.rows.specs.Weight.{sum}
-use Rattle.encodable.specs.CountingLaws.{sum-start, sum-more}
+use Rattle.logic.specs.Weight.{sum, sum-start, sum-more}
 use Rattle.assign.proofs.above.Statement.{statement}
 use Rattle.assign.proofs.above.Tie as tie
 

@@ -4,7 +4,7 @@ use native.Mathlib.Omega.{arith}
 use borrow.Author.Needs.{needs}
 use borrow.Fn.Kinds.{In}
 use borrow.Fn.PlainCycle.{Measures, is, falls, and}
-use Rattle.encodable.specs.KnownLaws.{operator-some, lower}
+use Rattle.logic.specs.KnownLaws.{operator-some, lower}
 use Rattle.encodable.specs.EncodableLaws.{encodable-atom, encodable-under, encodable-first, encodable-guarded, encodable-second}
 use Rattle.encodable.proofs.encodable.Reads as encodable
 use Rattle.encodable.proofs.encodable.Kinds as encodable-kinds

@@ -4,7 +4,7 @@ use native.Mathlib.Omega.{arith}
 use borrow.Author.Needs.{needs}
 use borrow.Fn.Kinds.{In}
 use borrow.Fn.PlainCycle.{Measures, is, falls, and}
-use Rattle.encodable.specs.KnownLaws.{operator-some, lower}
+use Rattle.logic.specs.KnownLaws.{operator-some, lower}
 use Rattle.encodable.specs.EncodableLaws.{flat-atom, flat-deep, flat-first, flat-under, flat-second}
 use Rattle.encodable.proofs.flat.Reads as flat
 use Rattle.encodable.proofs.flat.Kinds as flat-kinds

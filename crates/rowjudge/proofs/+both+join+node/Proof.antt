@@ -5,7 +5,7 @@ use borrow.Author.Needs.{needs}
 use borrow.Fn.Kinds.{In}
 use borrow.Fn.PlainCycle.{Measures, is, falls, and}
 use Rattle.logic.specs.Table.{opOf}
-use Rattle.encodable.specs.KnownLaws.{operator-some, variables, lower}
+use Rattle.logic.specs.KnownLaws.{operator-some, variables, lower}
 use Rattle.rowjudge.specs.NodeLaws.{judged-atom, judged-conj, judged-disj, judged-but, judged-neg, judged-sep, judged-sept, judged-both, within-first, within-second, within-conj, within-disj, within-but, within-neg, within-sep, within-sept, within-join, judged-leaf, judged-join}
 use Rattle.rowjudge.proofs.both.Reads as both
 use Rattle.rowjudge.proofs.both.Kinds as both-kinds

@@ -5,7 +5,7 @@ use native.Mathlib.Omega.{arith}
 use Rattle.logic.specs.Table.{opOf, tree}
 use Rattle.rows.specs.TableLaws.{rows-some}
 use Rattle.rowbytes.specs.WrittenLaws.{row-after, space-after}
-use Rattle.encodable.specs.KnownLaws.{operator-some, lower}
+use Rattle.logic.specs.KnownLaws.{operator-some, lower}
 use Rattle.treerows.specs.TreeLaws.{first-some, next-some, two-trees, conj-rows, disj-rows, but-rows, neg-rows, sep-encoded, sept-encoded, room-first, room-second, room-none, room-conj, room-disj, room-but, room-neg, room-sep, room-sept, room-atom, room-join, atom-encoded, join-encoded}
 use borrow.Fn.Kinds.{In}
 use borrow.Fn.PlainCycle.{Measures, is, falls, and}

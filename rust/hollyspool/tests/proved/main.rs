@@ -5,6 +5,7 @@ mod both_ways;
 mod compare;
 mod damaged;
 mod encode;
+mod export;
 mod import;
 mod judge;
 mod lines;

@@ -1,6 +1,8 @@
 //! What the wrapper adds to the calls: books from formulas, formulas from books, and words.
 
 mod books;
+mod candidates;
 mod models;
 mod numbers;
 mod samples;
+mod written;

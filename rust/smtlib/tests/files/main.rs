@@ -1,5 +1,6 @@
 //! Whole files and the bodies they become.
 
+mod back;
 mod bodies;
 mod meaning;
 mod refused;

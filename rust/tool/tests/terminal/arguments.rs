@@ -2,13 +2,14 @@
 
 use crate::run::{run, sample};
 
-const COMMANDS: [&str; 7] = [
+const COMMANDS: [&str; 8] = [
     "search",
     "judge",
     "encode",
     "assign",
     "explain",
     "draw",
+    "text",
     "translate",
 ];
 
@@ -51,6 +52,9 @@ fn bad_arguments() {
         ),
         (&["assign", book], "assign needs a FILE and an ASSIGNMENT"),
         (&["encode", book, "--raw", "--json"], "--json and --raw"),
+        (&["text"], "text needs a FILE"),
+        (&["text", book, "--raw"], "text has no option --raw"),
+        (&["explain", book, "--file"], "explain has no option --file"),
         (&["explain", "not/there"], "can't read not/there"),
         (&["explain", "."], "can't read ."),
         (&["draw", book, "--colour"], "draw has no option --colour"),

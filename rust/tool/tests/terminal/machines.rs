@@ -56,6 +56,7 @@ fn every_answer_is_an_object() {
         (&["assign", "-", "010101"], 0, 0, "satisfied"),
         (&["assign", "-", "000000"], 1, 1, "not satisfied"),
         (&["explain", "-"], 0, 0, "accepted"),
+        (&["text", "-"], 0, 0, "written"),
         (&["draw", "-"], 0, 0, "found"),
         (&["draw", "-", "--budget", "1"], 2, 2, "spent"),
     ] {
@@ -71,7 +72,7 @@ fn every_answer_is_an_object() {
 fn a_refused_book() {
     let mut book = P1;
     book[16] = 9;
-    for command in ["search", "encode", "explain", "draw"] {
+    for command in ["search", "encode", "explain", "draw", "text"] {
         let run = run_on(&book, &[command, "-", "--json"]);
         assert_eq!(run.status, 3, "{command}");
         let fields = fields(&run);
@@ -120,6 +121,7 @@ fn what_stands_in_a_book() {
     let run = run_on(&P1, &["explain", "-", "--json"]);
     let fields = fields(&run);
     assert_eq!(fields["formula"], text("x1 ↦ x1"));
+    assert_eq!(fields["text"], text("(pto v1 v1)"));
     for (name, number) in [("v", 1), ("n", 1), ("p", 1), ("total", 6), ("rows", 3)] {
         assert_eq!(fields[name], Json::Number(number), "{name}");
     }

@@ -13,3 +13,4 @@ mod run;
 mod statuses;
 mod texts;
 mod whole_files;
+mod written;

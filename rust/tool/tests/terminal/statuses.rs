@@ -109,12 +109,15 @@ fn stray_variables() {
     }
     assert_eq!(run_on(&STRAY, &["judge", "-", "0001000000"]).status, 0);
     assert_eq!(run_on(&STRAY, &["encode", "-"]).status, 0);
+    assert_eq!(run_on(&STRAY, &["text", "-"]).status, 0);
     assert_eq!(run_on(&STRAY, &["assign", "-", "000100000001"]).status, 0);
 }
 
 #[test]
 fn every_command_refuses_no_book() {
-    for command in ["search", "judge", "encode", "assign", "explain", "draw"] {
+    for command in [
+        "search", "judge", "encode", "assign", "explain", "draw", "text",
+    ] {
         let args: &[&str] = match command {
             "judge" | "assign" => &[command, "-", "00"],
             _ => &[command, "-"],

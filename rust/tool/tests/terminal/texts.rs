@@ -63,7 +63,8 @@ fn every_command() {
             &["explain", "-"],
             0,
             "formula  head ↦ x * ls(x, nil)\nnodes    3\nbounds   v = 2, n = 4, p = 4\n\
-             T        32400 candidates\nrows     17\nnames    head is 1, x is 2\n",
+             T        32400 candidates\nrows     17\ntext     (sep (pto v1 v2) (ls v2 sep.nil))\n\
+             names    head is 1, x is 2\n",
         ),
         (
             &["draw", "-", "--n", "1"],
@@ -71,6 +72,7 @@ fn every_command() {
             "digraph model {\n  rankdir=LR;\n  0 [shape=box, label=\"nil\\nx\"];\n  \
              1 [shape=ellipse, style=solid, label=\"1\\nhead\"];\n  1 -> 0;\n}\n",
         ),
+        (&["text", "-"], 0, "(sep (pto v1 v2) (ls v2 sep.nil))\n"),
         (&["translate", "-"], 0, "(sep (pto head x)\n     (ls x sep.nil))\n"),
     ] {
         let run = run_on(text, &[args, &["--text"]].concat());

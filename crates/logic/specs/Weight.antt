@@ -5,19 +5,29 @@ use mathlib.Core.Logic.{⊎-elim}
 use Prim.Native.Nat.{ℕ, zero, suc, zero-le, _+_, _*_, _<_, _≤_}
 use native.Mathlib.Nat.{not-suc-le-zero, eq-or-lt-of-le, le-of-suc-le-suc, zero-mul, one-mul, add-mul}
 use native.Mathlib.Decide.{decLe, ℕ-discrete}
+use native.Mathlib.Numerals.{add-one}
 use native.Mathlib.Omega.{arith}
 use lib.Dec.{eqb}
 use borrow.Author.Tests.{eq-eqb, ne-eqb, le-leb}
 use Rattle.logic.specs.Tests.{pick}
 use Rattle.logic.specs.Formula.{Form}
 use Rattle.logic.specs.Table.{opOf, operandOf, kindOf, Operand, OperandOk, Sound, usesOn, uses, Tree, atomOf, joinOf, tree}
 use Rattle.logic.specs.TableLaws.{not-used-on, no-child-on}
 use Rattle.logic.specs.NodeLaws.{tree-atom, tree-join}
 
 -- f 0 + f 1 + .. + f (n - 1)
 unfoldable pub sum : ℕ → (ℕ → ℕ) → ℕ
 sum zero f = 0
 sum (suc n) f = sum n f + f n
+
+-- the sum of a loop, before its first turn and after one more
+pub sum-start : (f : ℕ → ℕ) → sum 0 f ≡ 0
+unfolding sum
+sum-start f = refl
+
+pub sum-more : (f : ℕ → ℕ) (k : ℕ) → sum (k + 1) f ≡ sum k f + f k
+unfolding sum
+sum-more f k = ap (λ (x : ℕ). sum x f) (add-one k)
 
 pub sum-same : (n : ℕ) (f g : ℕ → ℕ) → ((i : ℕ) → i < n → f i ≡ g i) → sum n f ≡ sum n g
 unfolding sum
@@ -155,22 +165,27 @@ module _ (v : ℕ) (f : List ℕ) (n : ℕ) (ok : Sound v f n) where
         let top : sum n w ≡ sum m w + w m = ap (λ (x : ℕ). sum x w) e in
         omega (arith, all, few, top)
 
--- W of a formula is `own` of its operator and W of its children
-pub record Adds (W : Form → ℕ) (own : ℕ → ℕ) : Type 0 where
-  pub atom : (o x y : ℕ) → 1 ≤ o → o ≤ 4 → W (atomOf o x y) ≡ own o
-  pub join : (o : ℕ) (a b : Form) → 5 ≤ o → o ≤ 10 → W (joinOf o a b) ≡ own o + (kid o 0 (W a) + kid o 1 (W b))
+-- W of a formula is `own` of its operator and operands, and W of its children
+pub record Adds (W : Form → ℕ) (own : ℕ → ℕ → ℕ → ℕ) : Type 0 where
+  pub atom : (o x y : ℕ) → 1 ≤ o → o ≤ 4 → W (atomOf o x y) ≡ own o x y
+  pub join : (o x y : ℕ) (a b : Form) → 5 ≤ o → o ≤ 10 → W (joinOf o a b) ≡ own o x y + (kid o 0 (W a) + kid o 1 (W b))
 
-module _ (v : ℕ) (f : List ℕ) (n : ℕ) (ok : Sound v f n) (t : Tree f n) (m : ℕ) (e : n ≡ suc m) (W : Form → ℕ) (own : ℕ → ℕ) (a : Adds W own) where
-  pub adds-up : W (tree f m) ≡ sum n (λ k. own (opOf f k))
-  adds-up = weigh v f n ok t m e (λ k. own (opOf f k)) (λ k. W (tree f k)) at-node
+-- the same of a node
+abbrev pub ownAt : (ℕ → ℕ → ℕ → ℕ) → List ℕ → ℕ → ℕ
+ownAt own f k = own (opOf f k) (operandOf f k 0) (operandOf f k 1)
+
+module _ (v : ℕ) (f : List ℕ) (n : ℕ) (ok : Sound v f n) (t : Tree f n) (m : ℕ) (e : n ≡ suc m) (W : Form → ℕ) (own : ℕ → ℕ → ℕ → ℕ) (a : Adds W own) where
+  pub adds-up : W (tree f m) ≡ sum n (ownAt own f)
+  adds-up = weigh v f n ok t m e (ownAt own f) (λ k. W (tree f k)) at-node
     where
-      at-node : (k : ℕ) → k < n → W (tree f k) ≡ own (opOf f k) + kids f (λ j. W (tree f j)) k
+      at-node : (k : ℕ) → k < n → W (tree f k) ≡ ownAt own f k + kids f (λ j. W (tree f j)) k
       at-node k l = go (decLe (opOf f k) 4)
         where
-          go : Dec (opOf f k ≤ 4) → W (tree f k) ≡ own (opOf f k) + kids f (λ j. W (tree f j)) k
+          go : Dec (opOf f k ≤ 4) → W (tree f k) ≡ ownAt own f k + kids f (λ j. W (tree f j)) k
           go (yes h) =
               let none = ap₂ _+_ (no-kid (opOf f k) 0 (W (tree f (operandOf f k 0))) h) (no-kid (opOf f k) 1 (W (tree f (operandOf f k 1))) h) in
               ap W (tree-atom v f n ok k h) ∙ a .atom (opOf f k) (operandOf f k 0) (operandOf f k 1) (ok k l .operator .0) h ∙ omega (arith, none)
           go (no h) =
               let g : 5 ≤ opOf f k = omega arith in
-              ap W (tree-join v f n ok k l g) ∙ a .join (opOf f k) (tree f (operandOf f k 0)) (tree f (operandOf f k 1)) g (ok k l .operator .1)
+              ap W (tree-join v f n ok k l g)
+              ∙ a .join (opOf f k) (operandOf f k 0) (operandOf f k 1) (tree f (operandOf f k 0)) (tree f (operandOf f k 1)) g (ok k l .operator .1)

@@ -1,0 +1,2 @@
+pub mod OwnWords
+pub mod OwnWordLaws

@@ -1,0 +1,4 @@
+pub mod NamedTable
+pub mod TextLaws
+pub mod Longest
+pub mod LongestLaws
