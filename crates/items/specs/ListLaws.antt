@@ -20,14 +20,15 @@ use Rattle.grammar.specs.Listing.{sizeOf, listing}
 use Rattle.grammar.specs.Meaning.{collect, noteTerm, numberOf, joinForm, atomForm, formOf}
 use Rattle.grammar.specs.MeaningLaws.{join-size, atom-size}
 use Rattle.grammar.specs.Outcome.{outcome}
-use Rattle.words.specs.Words.{wordOf, Skipped, ShutIs}
-use Rattle.words.specs.declared.Next.the-variants.{At, Bad}
+use Rattle.words.specs.Words.{wordOf, Skipped, WordIs}
+use Rattle.words.specs.declared.Said.{Said}
+use Rattle.words.specs.declared.Said.the-variants.{Word as Says}
 use Rattle.names.specs.declared.Taken.{Taken}
 use Rattle.names.specs.Names.{Names, held, Took, OperandIs}
 use Rattle.draft.specs.Drafts.{joinOf, atomOf, joinTail, NodesIs}
 use Rattle.items.specs.declared.Reached.{Reached}
-use Rattle.items.specs.Readings.{Draft, Step, step, FinishedIs, formIn, bytesOf, Read, ReadIs}
-use Rattle.items.specs.ReadLaws.{refuses-as, stops-at, moved, list-open, list-closed}
+use Rattle.items.specs.Readings.{Draft, Step, step, ClosedIs, formIn, bytesOf, Read, ReadIs}
+use Rattle.items.specs.ReadLaws.{refuses-as, stops-at, moved, list-closed}
 
 -- ---- a list of one formula
 
@@ -41,16 +42,13 @@ module _ (s : List ℕ) (depth i : ℕ) (d : Draft) where
         → outcome (held (d .names)) (d .nodes) (onward s (item (only-one ∷ σ)) i) ≡ outcome (held (a .draft .names)) (a .draft .nodes) (onward s (shut (deny (q .phrase)) σ) (a .at))
     single-reach σ e = q .goes (only-one ∷ σ) (omega (arith, e))
 
-    pub single-open : (p : ℕ) → ShutIs s (a .at) (Bad p) → {r : Step} → r .number ≡ bad-text → r .at ≡ p → ReadIs s (waits denies) depth i d r
-    single-open p k w z = list-open s depth i d (waits denies) (deny (q .phrase)) (a .draft) (a .at) (omega (arith, q .from)) single-reach p k w z
-
-    pub single-read : (e : ℕ) → ShutIs s (a .at) (At e) → {n : ℕ} {u : List ℕ} → NodesIs (a .draft .table) (a .draft .nodes) 1 (8 ∷ (a .draft .nodes - 1) ∷ 0 ∷ []) n u
-        → (r : Reached) → FinishedIs e n (a .draft .names .count) r → ReadIs s (waits denies) depth i d (step r u (a .draft .names .letters))
+    pub single-read : {n : ℕ} {u : List ℕ} → NodesIs (a .draft .table) (a .draft .nodes) 1 (8 ∷ (a .draft .nodes - 1) ∷ 0 ∷ []) n u
+        → (r : Reached) → ClosedIs s (a .at) n (a .draft .names .count) r → ReadIs s (waits denies) depth i d (step r u (a .draft .names .letters))
     unfolding collect formOf sizeOf listing
-    single-read e k h r f =
+    single-read h r f =
         let A = formIn (a .draft) (q .phrase) in
         let last : a .draft .nodes - 1 ≡ d .nodes + sizeOf A - 1 = ap (λ (n : ℕ). n - 1) (q .nodes) in
-        list-closed s depth i d (waits denies) (deny (q .phrase)) (a .draft) (a .at) (omega (arith, q .from)) single-reach e k h (q .fine .names) (q .names) (omega (arith, q .nodes))
+        list-closed s depth i d (waits denies) (deny (q .phrase)) (a .draft) (a .at) (omega (arith, q .from)) single-reach h (q .fine .names) (q .names) (omega (arith, q .nodes))
         (ap₂ (λ (x : List ℕ) (n : ℕ). x ++ (8 ∷ n ∷ 0 ∷ [])) (q .bytes) last ∙ append-assoc (bytesOf d) (listing (d .nodes) A) (8 ∷ (d .nodes + sizeOf A - 1) ∷ 0 ∷ [])) r f
 
 -- ---- a list of two formulas
@@ -88,9 +86,6 @@ module _ (s : List ℕ) (depth i : ℕ) (d : Draft) (c : Join) (a : Step) (q : R
     later-place : i ≤ b .at
     later-place = omega (arith, q .from, u .from)
 
-    pub pair-open : (p : ℕ) → ShutIs s (b .at) (Bad p) → {r : Step} → r .number ≡ bad-text → r .at ≡ p → ReadIs s (waits (joins c)) depth i d r
-    pair-open p k w z = list-open s depth i d (waits (joins c)) (join c (q .phrase) (u .phrase)) (b .draft) (b .at) later-place pair-reach p k w z
-
     -- the second formula's names change no number of the first's
     first-form : formIn (b .draft) (q .phrase) ≡ formIn (a .draft) (q .phrase)
     first-form =
@@ -98,10 +93,10 @@ module _ (s : List ℕ) (depth i : ℕ) (d : Draft) (c : Join) (a : Step) (q : R
         let more : More (held (a .draft .names)) (held (b .draft .names)) = subst (λ (ms : List (List ℕ)). More (held (a .draft .names)) ms) (sym (u .names)) (more-collect (u .phrase) (held (a .draft .names))) in
         form-more F (held (a .draft .names)) (held (b .draft .names)) more (all-in F (held (d .names)) (held (a .draft .names)) ([], q .names ∙ sym (append-nil (collect (held (d .names)) F))))
 
-    pub pair-read : (e : ℕ) → ShutIs s (b .at) (At e) → {n : ℕ} {t : List ℕ} → NodesIs (b .draft .table) (b .draft .nodes) (adds (joins c)) (joinTail c (a .draft .nodes) (b .draft .nodes)) n t
-        → (r : Reached) → FinishedIs e n (b .draft .names .count) r → ReadIs s (waits (joins c)) depth i d (step r t (b .draft .names .letters))
+    pub pair-read : {n : ℕ} {t : List ℕ} → NodesIs (b .draft .table) (b .draft .nodes) (adds (joins c)) (joinTail c (a .draft .nodes) (b .draft .nodes)) n t
+        → (r : Reached) → ClosedIs s (b .at) n (b .draft .names .count) r → ReadIs s (waits (joins c)) depth i d (step r t (b .draft .names .letters))
     unfolding collect formOf
-    pair-read e k h r f =
+    pair-read h r f =
         let A = formIn (b .draft) (q .phrase) in
         let B = formIn (b .draft) (u .phrase) in
         let na : a .draft .nodes ≡ d .nodes + sizeOf A = q .nodes ∙ ap (λ (X : Form). d .nodes + sizeOf X) (sym first-form) in
@@ -110,7 +105,7 @@ module _ (s : List ℕ) (depth i : ℕ) (d : Draft) (c : Join) (a : Step) (q : R
         let bytes-b : bytesOf (b .draft) ≡ bytesOf d ++ (listing (d .nodes) A ++ listing (d .nodes + sizeOf A) B) =
         u .bytes ∙ ap₂ (λ (x : List ℕ) (n : ℕ). x ++ listing n B) bytes-a na ∙ append-assoc (bytesOf d) (listing (d .nodes) A) (listing (d .nodes + sizeOf A) B) in
         let tail = joinTail c (d .nodes + sizeOf A) (d .nodes + sizeOf A + sizeOf B) in
-        list-closed s depth i d (waits (joins c)) (join c (q .phrase) (u .phrase)) (b .draft) (b .at) later-place pair-reach e k h (u .fine .names)
+        list-closed s depth i d (waits (joins c)) (join c (q .phrase) (u .phrase)) (b .draft) (b .at) later-place pair-reach h (u .fine .names)
         (u .names ∙ ap (λ (ns : List (List ℕ)). collect ns (u .phrase)) (q .names))
         (omega (arith, nb, join-size c A B))
         (ap₂ (λ (m n : ℕ). bytesOf (b .draft) ++ joinTail c m n) na nb ∙ ap (λ (x : List ℕ). x ++ tail) bytes-b
@@ -139,23 +134,19 @@ module _ (s : List ℕ) (depth i : ℕ) (d : Draft) (c : Atom) (a : Taken) (x : 
       further : i ≤ b .at
       further = omega (arith, q .from, u .from)
 
-      pub relation-open : (p : ℕ) → ShutIs s (b .at) (Bad p) → {r : Step} → r .number ≡ bad-text → r .at ≡ p → ReadIs s (waits (relates c)) depth i d r
-      unfolding named
-      relation-open p k w z = list-open s depth i d (waits (relates c)) (relate c (q .term) (u .term)) named (b .at) further relation-reach p k w z
-
       -- the second name changes no number of the first
       first-number : a .variable ≡ numberOf (held y) (q .term)
       first-number =
           let more : More (held x) (held y) = subst (λ (ms : List (List ℕ)). More (held x) ms) (sym (u .noted)) (more-term (held x) (u .term)) in
           q .number ∙ sym (number-more (held x) (held y) (q .term) more (subst (λ (ms : List (List ℕ)). TermIn ms (q .term)) (sym (q .noted)) (term-note (held (d .names)) (q .term))))
 
-      pub relation-read : (e : ℕ) → ShutIs s (b .at) (At e) → {n : ℕ} {t : List ℕ} → NodesIs (d .table) (d .nodes) (adds (relates c)) (listing (d .nodes) (atomForm c (a .variable) (b .variable))) n t
-          → (r : Reached) → FinishedIs e n (y .count) r → ReadIs s (waits (relates c)) depth i d (step r t (y .letters))
+      pub relation-read : {n : ℕ} {t : List ℕ} → NodesIs (d .table) (d .nodes) (adds (relates c)) (listing (d .nodes) (atomForm c (a .variable) (b .variable))) n t
+          → (r : Reached) → ClosedIs s (b .at) n (y .count) r → ReadIs s (waits (relates c)) depth i d (step r t (y .letters))
       unfolding named collect formOf
-      relation-read e k h r f =
+      relation-read h r f =
           let X = numberOf (held y) (q .term) in
           let Y = numberOf (held y) (u .term) in
-          list-closed s depth i d (waits (relates c)) (relate c (q .term) (u .term)) named (b .at) further relation-reach e k h (u .fine)
+          list-closed s depth i d (waits (relates c)) (relate c (q .term) (u .term)) named (b .at) further relation-reach h (u .fine)
           (u .noted ∙ ap (λ (ns : List (List ℕ)). noteTerm ns (u .term)) (q .noted))
           (omega (arith, atom-size c X Y))
           (ap₂ (λ (v w : ℕ). bytesOf d ++ listing (d .nodes) (atomForm c v w)) first-number (u .number)) r f
@@ -187,6 +178,14 @@ module _ (s : List ℕ) (depth i : ℕ) (d : Draft) (w : ℕ) (r : Step) where
 
   pub relates-are : 5 ≤ w → w < 9 → ReadIs s (waits (relates (atomOf w))) depth i d r → ReadIs s (waits (wordOf w)) depth i d r
   relates-are l m h = subst (λ (c : Word). ReadIs s (waits c) depth i d r) (atom-word w l m) h
+
+-- a list goes on behind the word that was said
+module _ (s : List ℕ) (i : ℕ) {x : Said} {e w : ℕ} (h : x ≡ Says e w) (q : WordIs s i x) where
+  pub word-said : WordIs s i (Says e w)
+  word-said = subst (WordIs s i) h q
+
+  pub list-said : (depth : ℕ) (d : Draft) (r : Step) (v : ℕ) → w ≡ v → ReadIs s (waits (wordOf v)) depth e d r → ReadIs s head depth i d r
+  list-said depth d r v p k = moved s depth i d (waits (wordOf v)) e (omega (arith, word-said .1)) (λ σ t. word-said .3 σ ∙ ap (λ (u : ℕ). onward s (waits (wordOf u) σ) e) p) k
 
 -- ---- an item
 

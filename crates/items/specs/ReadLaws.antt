@@ -2,6 +2,7 @@
 use mathlib.Core.Path.{_≡_, refl, sym, ap, ap₂, _∙_, subst}
 use mathlib.Core.Bool.{true, false}
 use mathlib.Core.List.{List, [], _∷_, _++_}
+use mathlib.Core.Logic.{inl, inr}
 use Prim.Native.Nat.{ℕ, _+_, _-_, _≤_, _<_}
 use native.Mathlib.Omega.{arith}
 use native.Mathlib.Decide.{ℕ-discrete}
@@ -23,7 +24,7 @@ use Rattle.words.specs.declared.Next.the-variants.{At, Bad}
 use Rattle.names.specs.Names.{held, Fine as FineNames}
 use Rattle.draft.specs.Drafts.{NodesIs}
 use Rattle.items.specs.declared.Reached.{Reached}
-use Rattle.items.specs.Readings.{Draft, Step, step, FinishedIs, formIn, bytesOf, Read, ReadIs}
+use Rattle.items.specs.Readings.{Draft, Step, step, ClosedIs, formIn, bytesOf, Read, ReadIs}
 
 -- ---- nodes are added, within the most or past them
 
@@ -110,15 +111,15 @@ module _ (s : List ℕ) (depth i : ℕ) (d : Draft) where
   -- the formulas or terms of the list P are read: the draft is b, and its closing bracket is awaited from j on
   module _ (m : List Frame → Mode) (P : Phrase) (b : Draft) (j : ℕ) (l : i ≤ j)
       (reach : (σ : List Frame) → length σ ≡ depth → outcome (held (d .names)) (d .nodes) (onward s (m σ) i) ≡ outcome (held (b .names)) (b .nodes) (onward s (shut P σ) j)) where
-    pub list-open : (p : ℕ) → ShutIs s j (Bad p) → {r : Step} → r .number ≡ bad-text → r .at ≡ p → ReadIs s m depth i d r
+    list-open : (p : ℕ) → ShutIs s j (Bad p) → {r : Step} → r .number ≡ bad-text → r .at ≡ p → ReadIs s m depth i d r
     unfolding outcome
     list-open p q w a = refuses-as bad-text p (omega arith) w a (λ σ t. reach σ t ∙ ap (outcome (held (b .names)) (b .nodes)) (q P σ))
 
-    module _ (e : ℕ) (q : ShutIs s j (At e)) {bs u : List ℕ} {n : ℕ} (h : NodesIs (b .table) (b .nodes) (own P) bs n u)
+    module _ {bs u : List ℕ} {n : ℕ} (h : NodesIs (b .table) (b .nodes) (own P) bs n u)
         (fine : FineNames (b .names)) (names : held (b .names) ≡ collect (held (d .names)) P)
         (size : b .nodes + own P ≡ d .nodes + sizeOf (formIn b P)) (bytes : bytesOf b ++ bs ≡ bytesOf d ++ listing (d .nodes) (formIn b P)) where
-      closed : ¬ (n ≡ 0) → ReadIs s m depth i d (record { number = 0; at = e; draft = record { table = u; nodes = n; names = b .names } })
-      closed z =
+      list-done : (e : ℕ) → ShutIs s j (At e) → ¬ (n ≡ 0) → ReadIs s m depth i d (record { number = 0; at = e; draft = record { table = u; nodes = n; names = b .names } })
+      list-done e q z =
           let c = h .fits z in
           record {
             read = λ _.
@@ -135,11 +136,12 @@ module _ (s : List ℕ) (depth i : ℕ) (d : Draft) where
             refuses = λ y. absurd (y refl);
           }
 
-      pub list-closed : (r : Reached) → FinishedIs e n (b .names .count) r → ReadIs s m depth i d (step r u (b .names .letters))
-      list-closed r f = go (ℕ-discrete n 0)
+      pub list-closed : (r : Reached) → ClosedIs s j n (b .names .count) r → ReadIs s m depth i d (step r u (b .names .letters))
+      list-closed r (inr (p, q, w, a)) = list-open p q w a
+      list-closed r (inl (e, q, f)) = go (ℕ-discrete n 0)
         where
           go : Dec (n ≡ 0) → ReadIs s m depth i d (step r u (b .names .letters))
-          go (no z) = subst (λ (x : Reached). ReadIs s m depth i d (step x u (b .names .letters))) (sym (f .done z)) (closed z)
+          go (no z) = subst (λ (x : Reached). ReadIs s m depth i d (step x u (b .names .letters))) (sym (f .done z)) (list-done e q z)
           go (yes z) =
               refuses-as many-nodes (e - 1) (omega arith) (f .passes z .0) (f .passes z .1)
               (λ σ t. reach σ t ∙ ap (outcome (held (b .names)) (b .nodes)) (q .2 P σ) ∙ passed h (held (b .names)) e (onward s (past false P σ) e) z)

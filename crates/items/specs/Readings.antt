@@ -2,9 +2,10 @@
 use mathlib.Core.Path.{_≡_}
 use mathlib.Core.Bool.{false}
 use mathlib.Core.List.{List, _++_}
+use mathlib.Core.Logic.{_⊎_}
 use Prim.Native.Nat.{ℕ, _+_, _-_, _≤_, _<_}
 use lib.ListN.{length}
-use Rattle.logic.specs.Numbers.{many-nodes}
+use Rattle.logic.specs.Numbers.{bad-text, many-nodes}
 use Rattle.logic.specs.Formula.{Form}
 use Rattle.grammar.specs.Phrase.{Phrase}
 use Rattle.grammar.specs.Machine.{Frame, Mode, past}
@@ -12,6 +13,8 @@ use Rattle.grammar.specs.Steps.{onward}
 use Rattle.grammar.specs.Listing.{sizeOf, listing}
 use Rattle.grammar.specs.Meaning.{collect, numberOf, formOf}
 use Rattle.grammar.specs.Outcome.{outcome, refused}
+use Rattle.words.specs.Words.{ShutIs}
+use Rattle.words.specs.declared.Next.the-variants.{At, Bad}
 use Rattle.names.specs.Names.{Names, names as names-of, held, Fine as FineNames}
 use Rattle.draft.specs.Drafts.{bytesIn, Ready}
 use Rattle.items.specs.declared.Reached.{Reached}
@@ -42,6 +45,12 @@ step r t l = record { number = r .number; at = r .at; draft = draft t (r .nodes)
 pub record FinishedIs (i n k : ℕ) (r : Reached) : Type 0 where
   pub passes : n ≡ 0 → (r .number ≡ many-nodes) × (r .at ≡ i - 1)
   pub done : ¬ (n ≡ 0) → r ≡ record { number = 0; at = i; nodes = n; names = k }
+
+-- a list whose closing bracket is awaited from i on, with n nodes and k names: it is finished behind the bracket, or refused where that is missed
+abbrev pub ClosedIs : List ℕ → ℕ → ℕ → ℕ → Reached → Type 0
+ClosedIs s i n k r =
+    ((e : ℕ) × ShutIs s i (At e) × FinishedIs e n k r)
+    ⊎ ((p : ℕ) × ShutIs s i (Bad p) × (r .number ≡ bad-text) × (r .at ≡ p))
 
 -- the formula that a phrase is, over the names so far
 abbrev pub formIn : Draft → Phrase → Form

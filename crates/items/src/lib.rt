@@ -21,7 +21,7 @@ ghost use Rattle.grammar.specs.Grammar.{Byte, deepest};
 ghost use Rattle.grammar.specs.Machine.{item as an-item, head};
 ghost use Rattle.grammar.specs.Steps.{waits};
 ghost use Rattle.words.specs.Words.{wordOf, FreeItem};
-ghost use Rattle.items.specs.Readings.{draft as draft-of, Fine, step, FinishedIs, ReadIs};
+ghost use Rattle.items.specs.Readings.{draft as draft-of, Fine, step, FinishedIs, ClosedIs, ReadIs};
 
 // How deep a list may stand.
 const DEEPEST: usize = 16;
@@ -58,6 +58,18 @@ fn finished(end: usize, nodes: usize, names: usize) -> Reached
         at: end,
         nodes,
         names,
+    }
+}
+
+// The closing bracket of a list whose last part ends before `at`, with so many nodes; 0 where they are too many.
+fn closed(s: &[u8], at: usize, nodes: usize, names: usize) -> Reached
+    requires { ⌜ at ≤ length (now s) ⌝ }
+    ensures { λ r. ⌜ ClosedIs (now (s .entry)) at nodes names r ⌝ }
+{
+    let end = shut(s, at);
+    match end {
+        Next::At(e) => finished(e, nodes, names),
+        Next::Bad(p) => refused(logic::BAD_TEXT, p),
     }
 }
 
@@ -126,14 +138,8 @@ fn relation(
     if second.number != logic::YES {
         return refused(second.number, second.at);
     }
-    let end = shut(s, second.at);
-    match end {
-        Next::At(e) => {
-            let n = related(table, nodes, w, first.variable, second.variable);
-            finished(e, n, second.names)
-        }
-        Next::Bad(p) => refused(logic::BAD_TEXT, p),
-    }
+    let n = related(table, nodes, w, first.variable, second.variable);
+    closed(s, second.at, n, second.names)
 }
 
 // An item inside that many lists.
@@ -204,14 +210,8 @@ fn single(
     if only.number != logic::YES {
         return only;
     }
-    let end = shut(s, only.at);
-    match end {
-        Next::At(e) => {
-            let n = denied(table, only.nodes);
-            finished(e, n, only.names)
-        }
-        Next::Bad(p) => refused(logic::BAD_TEXT, p),
-    }
+    let n = denied(table, only.nodes);
+    closed(s, only.at, n, only.names)
 }
 
 // The two formulas of a list, behind its word, and its closing bracket.
@@ -244,12 +244,6 @@ fn pair(
     if second.number != logic::YES {
         return second;
     }
-    let end = shut(s, second.at);
-    match end {
-        Next::At(e) => {
-            let n = joined(table, second.nodes, w, first.nodes);
-            finished(e, n, second.names)
-        }
-        Next::Bad(p) => refused(logic::BAD_TEXT, p),
-    }
+    let n = joined(table, second.nodes, w, first.nodes);
+    closed(s, second.at, n, second.names)
 }

@@ -32,6 +32,10 @@ abbrev pub Begins : ℕ → ℕ → Type 0
 Begins b k = (k ≤ 9) × ((σ : List Frame) → begun words b σ ≡ choose (ltb k 9) (word (wordOf k) (drop 1 (spelling (wordOf k))) σ) dead)
 
 module _ (s : List ℕ) where
+  -- blanks are all that stands from i to j: those from j on are reached from i
+  abbrev pub OverBlanks : ℕ → ℕ → Type 0
+  OverBlanks i j = (k : ℕ) → Blanks s j k → Blanks s i k
+
   -- the blanks from i on end before j
   pub record Skipped (i j : ℕ) : Type 0 where
     pub blanks : Blanks s i j

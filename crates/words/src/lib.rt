@@ -1,11 +1,12 @@
 // The smallest things of a text: blanks, edges, closing brackets and words.
 ghost use mathlib.Core.Path.{_≡_};
 ghost use mathlib.Core.List.{[]};
-ghost use Prim.Native.Nat.{_<_, _≤_};
+ghost use mathlib.Core.Bool.{true};
+ghost use Prim.Native.Nat.{ℕ, _+_, _<_, _≤_};
 ghost use lib.ListN.{length, getD, drop};
 ghost use Rattle.logic.specs.Reflect.{Is};
 ghost use Rattle.grammar.specs.Grammar.{blank, Edge};
-ghost use Rattle.words.specs.Words.{spellings, Begins, Skipped, SpelledIs, ShutIs, WordIs, FreeItem, EmpIs};
+ghost use Rattle.words.specs.Words.{spellings, Begins, OverBlanks, Skipped, SpelledIs, ShutIs, WordIs, FreeItem, EmpIs};
 
 // What was asked for ends before the place; or 26's place.
 pub enum Next {
@@ -39,6 +40,9 @@ const LIST_WORDS: usize = 9;
 
 const SEP_EMP: usize = 9;
 
+// How many bytes are looked at together where blanks are skipped.
+const STRETCH: usize = 128;
+
 pub fn is_blank(b: u8) -> bool
     ensures { λ r. ⌜ r ≡ blank b ⌝ }
 {
@@ -49,12 +53,61 @@ pub fn is_blank(b: u8) -> bool
     }
 }
 
+fn ink(b: u8) -> u8
+    ensures { λ r. ⌜ (r ≤ 1) × (r ≡ 0 → blank b ≡ true) ⌝ }
+{
+    if is_blank(b) {
+        return 0;
+    }
+    1
+}
+
+// How many bytes of the stretch are no blanks: without a way out, many are looked at in one step.
+fn inks(s: &[u8], at: usize) -> u8
+    requires { ⌜ at + 128 ≤ length (now s) ⌝ }
+    ensures { λ r. ⌜ (r ≡ 0 → OverBlanks (now (s .entry)) at (at + 128)) ⌝ }
+{
+    let mut k: usize = 0;
+    let mut n: u8 = 0;
+    while k < STRETCH {
+        n += ink(s[at + k]);
+        k += 1;
+    }
+    n
+}
+
+// Whether the stretch is all blanks. Where few blanks stand, its last byte mostly tells.
+fn all_blank(s: &[u8], at: usize) -> bool
+    requires { ⌜ at + 128 ≤ length (now s) ⌝ }
+    ensures { λ r. ⌜ (r ≡ true → OverBlanks (now (s .entry)) at (at + 128)) ⌝ }
+{
+    if !is_blank(s[at + (STRETCH - 1)]) {
+        return false;
+    }
+    inks(s, at) == 0
+}
+
+// Past the stretches that are all blanks.
+fn far(s: &[u8], at: usize) -> usize
+    requires { ⌜ at ≤ length (now s) ⌝ }
+    ensures { λ r. ⌜ (at ≤ r) × (r ≤ length (now (s .entry))) × OverBlanks (now (s .entry)) at r ⌝ }
+{
+    let mut e = at;
+    while STRETCH <= s.len() - e {
+        if !all_blank(s, e) {
+            return e;
+        }
+        e += STRETCH;
+    }
+    e
+}
+
 // Past the blanks.
 pub fn skip(s: &[u8], at: usize) -> usize
     requires { ⌜ at ≤ length (now s) ⌝ }
     ensures { λ r. ⌜ Skipped (now (s .entry)) at r ⌝ }
 {
-    let mut e = at;
+    let mut e = far(s, at);
     while e < s.len() {
         if !is_blank(s[e]) {
             return e;
@@ -95,11 +148,12 @@ pub fn shut(s: &[u8], at: usize) -> Next
     Next::At(e + 1)
 }
 
-fn letter_of(i: usize, k: usize) -> u8
-    requires { ⌜ (i < 11) × (k < 8) ⌝ }
-    ensures { λ r. ⌜ r ≡ getD (getD spellings i []) k 0 ⌝ }
+// Word i, with the zeros behind it. The table is laid out anew at each call.
+fn letters_of(i: usize) -> [u8; 8]
+    requires { ⌜ i < 11 ⌝ }
+    ensures { λ r. ⌜ ((k : ℕ) → k < 8 → getD r k 0 ≡ getD (getD spellings i []) k 0) ⌝ }
 {
-    WORDS[i][k]
+    WORDS[i]
 }
 
 // Word i from its letter k on.
@@ -107,10 +161,11 @@ pub fn spelled(s: &[u8], at: usize, i: usize, k: usize) -> Next
     requires { ⌜ (at ≤ length (now s)) × (i < 11) × (k ≤ 8) ⌝ }
     ensures { λ r. ⌜ SpelledIs (now (s .entry)) (drop k (getD spellings i [])) at r ⌝ }
 {
+    let letters = letters_of(i);
     let mut j = k;
     let mut e = at;
     while j < 8 {
-        let c = letter_of(i, j);
+        let c = letters[j];
         if c == 0 {
             return Next::At(e);
         }

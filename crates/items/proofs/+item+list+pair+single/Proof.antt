@@ -1,19 +1,17 @@
 -- `items::item`, `list`, `pair` and `single`, which call each other, meet their contracts: the rest of the text falls. Assumes
 -- nothing.
 use borrow.Author.Needs.{needs}
-use mathlib.Core.Path.{ap, subst, _∙_}
+use mathlib.Core.Path.{refl, subst, _∙_}
 use Prim.Native.Nat.{ℕ, _+_, _*_, _-_, _<_}
 use native.Mathlib.Omega.{arith}
 use lib.ListN.{length}
 use Rattle.logic.specs.Reflect.{fails}
 use Rattle.grammar.specs.Machine.{only-one, first-of}
-use Rattle.grammar.specs.Steps.{onward, waits}
-use Rattle.words.specs.Words.{wordOf, ShutIs, WordIs}
-use Rattle.words.specs.declared.Next.the-variants.{At, Bad}
-use Rattle.words.specs.declared.Said.the-variants.{Word as Says, Nothing}
+use Rattle.words.specs.Words.{WordIs}
+use Rattle.words.specs.declared.Said.the-variants.{Nothing}
 use Rattle.draft.specs.Drafts.{joinOf}
-use Rattle.items.specs.ReadLaws.{stops-at, moved, more-nodes}
-use Rattle.items.specs.ListLaws.{item-empty, item-list, item-deep, joins-are, first-refused, second-refused, pair-open, pair-read, single-open, single-read}
+use Rattle.items.specs.ReadLaws.{stops-at, more-nodes}
+use Rattle.items.specs.ListLaws.{item-empty, item-list, item-deep, joins-are, word-said, list-said, first-refused, second-refused, pair-read, single-read}
 use borrow.Fn.Kinds.{In}
 use borrow.Fn.PlainCycle.{Measures, is, falls, and}
 use Rattle.items.proofs.item.Reads as item
@@ -28,14 +26,13 @@ use Rattle.items.proofs.+item+list+pair+single.Lts-pair as pair-lts
 use Rattle.items.proofs.single.Reads as single
 use Rattle.items.proofs.single.Kinds as single-kinds
 use Rattle.items.proofs.+item+list+pair+single.Lts-single as single-lts
+use Rattle.items.proofs.closed.Reads as closed-reads
 use Rattle.draft.proofs.denied.Reads as denied-reads
 use Rattle.draft.proofs.joined.Reads as joined-reads
 use Rattle.items.proofs.empty.Reads as empty-reads
-use Rattle.items.proofs.finished.Reads as finished-reads
 use Rattle.items.proofs.opens.Reads as opens-reads
 use Rattle.items.proofs.refused.Reads as refused-reads
 use Rattle.items.proofs.relation.Reads as relation-reads
-use Rattle.words.proofs.shut.Reads as shut-reads
 use Rattle.words.proofs.skip.Reads as skip-reads
 use Rattle.words.proofs.word.Reads as word-reads
 use Rattle.items.proofs.+item+list+pair+single.{statement}
@@ -84,10 +81,10 @@ abbrev list-uses : ℕ → list-lts.Claims
 list-uses t = (word-reads.Asked, word-reads.Learnt, pair-below t, pair.Post, single-below t, single.Post, relation-reads.Asked, relation-reads.Learnt, refused-reads.Asked, refused-reads.Learnt)
 
 abbrev pair-uses : ℕ → pair-lts.Claims
-pair-uses t = (item-below t, item.Post, shut-reads.Asked, shut-reads.Learnt, joined-reads.Asked, joined-reads.Learnt, finished-reads.Asked, finished-reads.Learnt, refused-reads.Asked, refused-reads.Learnt)
+pair-uses t = (item-below t, item.Post, joined-reads.Asked, joined-reads.Learnt, closed-reads.Asked, closed-reads.Learnt)
 
 abbrev single-uses : ℕ → single-lts.Claims
-single-uses t = (item-below t, item.Post, shut-reads.Asked, shut-reads.Learnt, denied-reads.Asked, denied-reads.Learnt, finished-reads.Asked, finished-reads.Learnt, refused-reads.Asked, refused-reads.Learnt)
+single-uses t = (item-below t, item.Post, denied-reads.Asked, denied-reads.Learnt, closed-reads.Asked, closed-reads.Learnt)
 
 item-skip-requires : (t : ℕ) → item-lts.Need-skip-requires (item-uses t) (item-at t) item.Post
 item-skip-requires t c κs = search needs
@@ -100,7 +97,6 @@ item-refused-requires t c κs = search needs
 
 item-returns : (t : ℕ) → item-lts.Need-returns (item-uses t) (item-at t) item.Post
 item-returns t c =
-    let b = c .before .before .before .before .before .before in
     let k = c .before .before .before .before .skip in
     item-deep _ _ _ _ (k .result) (k .ensures) _ (c .before .before .before .opens .ensures .to (c .before .before .if1 .taken)) (c .before .if2 .taken) (c .refused .ensures .0) (c .refused .ensures .1)
 
@@ -116,7 +112,6 @@ item-list-requires t c κs =
 
 item-returns-2 : (t : ℕ) → item-lts.Need-returns-2 (item-uses t) (item-at t) item.Post
 item-returns-2 t c =
-    let b = c .before .before .before .before .before .before .before .before in
     let k = c .before .before .before .before .before .before .skip in
     item-list _ _ _ _ (k .result) (k .ensures) _ (c .before .before .before .before .before .opens .ensures .to (c .before .before .before .before .if1 .taken)) (omega arith) (c .list .ensures)
 
@@ -138,41 +133,29 @@ list-enum-known-said t c = search needs
 list-pair-requires : (t : ℕ) → list-lts.Need-pair-requires (list-uses t) (list-at t) list.Post
 list-pair-requires t c κs =
     let b = c .before .before .before .before .before .before .before .before in
-    let a = b .args in
-    let r = c .before .before .before .before .said .given in
-    let q : WordIs (a .s .now) (a .at) (Says (r .0 .0) (r .0 .1 .0)) = subst (WordIs (a .s .now) (a .at)) (r .1) (c .before .before .before .before .before .before .word .ensures) in
+    let q = word-said (b .args .s .now) (b .args .at) (c .before .before .before .before .said .given .1) (c .before .before .before .before .before .before .word .ensures) in
     (omega (arith, q .1, q .2, b .pre .0), (q .2, b .pre .1 .1, c .before .before .if1 .taken, b .pre .1 .2))
 
 list-returns : (t : ℕ) → list-lts.Need-returns (list-uses t) (list-at t) list.Post
 list-returns t c =
     let b = c .before .before .before .before .before .before .before .before .before in
-    let a = b .args in
-    let r = c .before .before .before .before .before .said .given in
-    let q : WordIs (a .s .now) (a .at) (Says (r .0 .0) (r .0 .1 .0)) = subst (WordIs (a .s .now) (a .at)) (r .1) (c .before .before .before .before .before .before .before .word .ensures) in
-    moved _ _ _ _ (waits (wordOf (r .0 .1 .0))) (r .0 .0) (omega (arith, q .1)) (λ σ e. q .3 σ) (c .pair .ensures)
+    list-said (b .args .s .now) (b .args .at) (c .before .before .before .before .before .said .given .1) (c .before .before .before .before .before .before .before .word .ensures) _ _ _ _ refl (c .pair .ensures)
 
 list-single-requires : (t : ℕ) → list-lts.Need-single-requires (list-uses t) (list-at t) list.Post
 list-single-requires t c κs =
     let b = c .before .before .before .before .before .before .before .before .before in
-    let a = b .args in
-    let r = c .before .before .before .before .before .said .given in
-    let q : WordIs (a .s .now) (a .at) (Says (r .0 .0) (r .0 .1 .0)) = subst (WordIs (a .s .now) (a .at)) (r .1) (c .before .before .before .before .before .before .before .word .ensures) in
+    let q = word-said (b .args .s .now) (b .args .at) (c .before .before .before .before .before .said .given .1) (c .before .before .before .before .before .before .before .word .ensures) in
     (omega (arith, q .1, q .2, b .pre .0), (q .2, b .pre .1 .1, b .pre .1 .2))
 
 list-returns-2 : (t : ℕ) → list-lts.Need-returns-2 (list-uses t) (list-at t) list.Post
 list-returns-2 t c =
     let b = c .before .before .before .before .before .before .before .before .before .before in
-    let a = b .args in
-    let r = c .before .before .before .before .before .before .said .given in
-    let q : WordIs (a .s .now) (a .at) (Says (r .0 .0) (r .0 .1 .0)) = subst (WordIs (a .s .now) (a .at)) (r .1) (c .before .before .before .before .before .before .before .before .word .ensures) in
-    moved _ _ _ _ (waits (wordOf 4)) (r .0 .0) (omega (arith, q .1)) (λ σ e. q .3 σ ∙ ap (λ (w : ℕ). onward (a .s .now) (waits (wordOf w) σ) (r .0 .0)) (c .before .before .before .if2 .taken)) (c .single .ensures)
+    list-said (b .args .s .now) (b .args .at) (c .before .before .before .before .before .before .said .given .1) (c .before .before .before .before .before .before .before .before .word .ensures) _ _ _ 4 (c .before .before .before .if2 .taken) (c .single .ensures)
 
 list-relation-requires : (t : ℕ) → list-lts.Need-relation-requires (list-uses t) (list-at t) list.Post
 list-relation-requires t c κs =
     let b = c .before .before .before .before .before .before .before .before .before in
-    let a = b .args in
-    let r = c .before .before .before .before .before .said .given in
-    let q : WordIs (a .s .now) (a .at) (Says (r .0 .0) (r .0 .1 .0)) = subst (WordIs (a .s .now) (a .at)) (r .1) (c .before .before .before .before .before .before .before .word .ensures) in
+    let q = word-said (b .args .s .now) (b .args .at) (c .before .before .before .before .before .said .given .1) (c .before .before .before .before .before .before .before .word .ensures) in
     (q .2, omega arith, q .0, b .pre .1 .2)
 
 list-enum-known-said-2 : (t : ℕ) → list-lts.Need-enum-known-said-2 (list-uses t) (list-at t) list.Post
@@ -184,10 +167,7 @@ list-refused-requires t c κs = search needs
 list-returns-3 : (t : ℕ) → list-lts.Need-returns-3 (list-uses t) (list-at t) list.Post
 list-returns-3 t c =
     let b = c .before .before .before .before .before .before .before .before .before .before in
-    let a = b .args in
-    let r = c .before .before .before .before .before .before .said .given in
-    let q : WordIs (a .s .now) (a .at) (Says (r .0 .0) (r .0 .1 .0)) = subst (WordIs (a .s .now) (a .at)) (r .1) (c .before .before .before .before .before .before .before .before .word .ensures) in
-    moved _ _ _ _ (waits (wordOf (r .0 .1 .0))) (r .0 .0) (omega (arith, q .1)) (λ σ e. q .3 σ) (c .relation .ensures)
+    list-said (b .args .s .now) (b .args .at) (c .before .before .before .before .before .before .said .given .1) (c .before .before .before .before .before .before .before .before .word .ensures) _ _ _ _ refl (c .relation .ensures)
 
 list-returns-4 : (t : ℕ) → list-lts.Need-returns-4 (list-uses t) (list-at t) list.Post
 list-returns-4 t c =
@@ -214,7 +194,6 @@ pair-add-item-2 t c = omega arith
 pair-item-requires-2 : (t : ℕ) → pair-lts.Need-item-requires-2 (pair-uses t) (pair-at t) pair.Post
 pair-item-requires-2 t c κs =
     let b = c .before .before .before .before .before .before .before .before in
-    let a = b .args in
     let q = c .before .before .before .before .item .ensures .read (c .before .before .if1 .left) in
     (omega (arith, b .pre .0, q .from, q .inside), (q .inside, omega arith, q .fine))
 
@@ -225,55 +204,21 @@ pair-returns-2 t c =
     let q = c .before .before .before .before .before .before .before .item .ensures .read (c .before .before .before .before .before .if1 .left) in
     joins-are _ _ _ _ (a .w) _ (b .pre .1 .2) (second-refused _ _ _ _ (joinOf (a .w)) _ q (c .before .before .item2 .ensures) (c .if2 .taken))
 
-pair-shut-requires : (t : ℕ) → pair-lts.Need-shut-requires (pair-uses t) (pair-at t) pair.Post
-pair-shut-requires t c κs = c .before .before .item2 .ensures .read (c .if2 .left) .inside
-
-pair-enum-known-end : (t : ℕ) → pair-lts.Need-enum-known-end (pair-uses t) (pair-at t) pair.Post
-pair-enum-known-end t c = search needs
-
 pair-joined-requires : (t : ℕ) → pair-lts.Need-joined-requires (pair-uses t) (pair-at t) pair.Post
 pair-joined-requires t c κs =
-    let b = c .before .before .before .before .before .before .before .before .before .before .before .before .before .before .before .before in
-    let a = b .args in
-    let q = c .before .before .before .before .before .before .before .before .before .before .before .before .item .ensures .read (c .before .before .before .before .before .before .before .before .before .before .if1 .left) in
-    let u = c .before .before .before .before .before .before .before .item2 .ensures .read (c .before .before .before .before .before .if2 .left) in
-    (u .fine .ready, b .pre .1 .2, omega (arith, more-nodes _ _ _ _ _ _ q), more-nodes _ _ _ _ _ _ u)
+    let q = c .before .before .before .before .before .before .before .before .item .ensures .read (c .before .before .before .before .before .before .if1 .left) in
+    let u = c .before .before .before .item2 .ensures .read (c .before .if2 .left) in
+    (u .fine .ready, c .before .before .before .before .before .before .before .before .before .before .before .before .pre .1 .2, omega (arith, more-nodes _ _ _ _ _ _ q), more-nodes _ _ _ _ _ _ u)
 
-pair-finished-requires : (t : ℕ) → pair-lts.Need-finished-requires (pair-uses t) (pair-at t) pair.Post
-pair-finished-requires t c κs =
-    let b = c .before .before .before .before .before .before .before .before .before .before .before .before .before .before .before .before .before in
-    let a = b .args in
-    let q = c .before .before .before .before .before .before .before .before .before .before .before .before .before .item .ensures .read (c .before .before .before .before .before .before .before .before .before .before .before .if1 .left) in
-    let u = c .before .before .before .before .before .before .before .before .item2 .ensures .read (c .before .before .before .before .before .before .if2 .left) in
-    let r = c .before .before .before .end .given in
-    let k : ShutIs (a .s .now) (c .before .before .before .before .before .before .before .before .item2 .result .at) (At (r .0 .0)) = subst (ShutIs (a .s .now) (c .before .before .before .before .before .before .before .before .item2 .result .at)) (r .1) (c .before .before .before .before .before .shut .ensures) in
-    omega (arith, k .0)
-
-pair-enum-known-end-2 : (t : ℕ) → pair-lts.Need-enum-known-end-2 (pair-uses t) (pair-at t) pair.Post
-pair-enum-known-end-2 t c = search needs
-
-pair-refused-requires : (t : ℕ) → pair-lts.Need-refused-requires (pair-uses t) (pair-at t) pair.Post
-pair-refused-requires t c κs = search needs
+pair-closed-requires : (t : ℕ) → pair-lts.Need-closed-requires (pair-uses t) (pair-at t) pair.Post
+pair-closed-requires t c κs = c .before .before .before .before .item2 .ensures .read (c .before .before .if2 .left) .inside
 
 pair-returns-3 : (t : ℕ) → pair-lts.Need-returns-3 (pair-uses t) (pair-at t) pair.Post
 pair-returns-3 t c =
-    let b = c .before .before .before .before .before .before .before .before .before .before .before .before .before .before .before .before .before .before in
-    let a = b .args in
-    let q = c .before .before .before .before .before .before .before .before .before .before .before .before .before .before .item .ensures .read (c .before .before .before .before .before .before .before .before .before .before .before .before .if1 .left) in
-    let u = c .before .before .before .before .before .before .before .before .before .item2 .ensures .read (c .before .before .before .before .before .before .before .if2 .left) in
-    let r = c .before .before .before .before .end .given in
-    let k : ShutIs (a .s .now) (c .before .before .before .before .before .before .before .before .before .item2 .result .at) (At (r .0 .0)) = subst (ShutIs (a .s .now) (c .before .before .before .before .before .before .before .before .before .item2 .result .at)) (r .1) (c .before .before .before .before .before .before .shut .ensures) in
-    joins-are _ _ _ _ (a .w) _ (b .pre .1 .2) (pair-read _ _ _ _ (joinOf (a .w)) _ q _ u (r .0 .0) k (c .before .joined .ensures) _ (c .finished .ensures))
-
-pair-returns-4 : (t : ℕ) → pair-lts.Need-returns-4 (pair-uses t) (pair-at t) pair.Post
-pair-returns-4 t c =
-    let b = c .before .before .before .before .before .before .before .before .before .before .before .before .before .before .before .before in
-    let a = b .args in
-    let q = c .before .before .before .before .before .before .before .before .before .before .before .before .item .ensures .read (c .before .before .before .before .before .before .before .before .before .before .if1 .left) in
-    let u = c .before .before .before .before .before .before .before .item2 .ensures .read (c .before .before .before .before .before .if2 .left) in
-    let r = c .before .before .end2 .given in
-    let k : ShutIs (a .s .now) (c .before .before .before .before .before .before .before .item2 .result .at) (Bad (r .0 .0)) = subst (ShutIs (a .s .now) (c .before .before .before .before .before .before .before .item2 .result .at)) (r .1) (c .before .before .before .before .shut .ensures) in
-    joins-are _ _ _ _ (a .w) _ (b .pre .1 .2) (pair-open _ _ _ _ (joinOf (a .w)) _ q _ u (r .0 .0) k (c .refused .ensures .0) (c .refused .ensures .1))
+    let b = c .before .before .before .before .before .before .before .before .before .before .before .before .before .before in
+    let q = c .before .before .before .before .before .before .before .before .before .before .item .ensures .read (c .before .before .before .before .before .before .before .before .if1 .left) in
+    let u = c .before .before .before .before .before .item2 .ensures .read (c .before .before .before .if2 .left) in
+    joins-are _ _ _ _ (b .args .w) _ (b .pre .1 .2) (pair-read _ _ _ _ (joinOf (b .args .w)) _ q _ u (c .before .joined .ensures) _ (c .closed .ensures))
 
 single-add-item : (t : ℕ) → single-lts.Need-add-item (single-uses t) (single-at t) single.Post
 single-add-item t c = omega arith
@@ -284,47 +229,14 @@ single-item-requires t c κs = let b = c .before .before .before in (omega (arit
 single-returns : (t : ℕ) → single-lts.Need-returns (single-uses t) (single-at t) single.Post
 single-returns t c = first-refused _ _ _ _ only-one (c .before .before .item .ensures) (c .if1 .taken)
 
-single-shut-requires : (t : ℕ) → single-lts.Need-shut-requires (single-uses t) (single-at t) single.Post
-single-shut-requires t c κs = c .before .before .item .ensures .read (c .if1 .left) .inside
-
-single-enum-known-end : (t : ℕ) → single-lts.Need-enum-known-end (single-uses t) (single-at t) single.Post
-single-enum-known-end t c = search needs
-
 single-denied-requires : (t : ℕ) → single-lts.Need-denied-requires (single-uses t) (single-at t) single.Post
-single-denied-requires t c κs = let q = c .before .before .before .before .before .before .before .item .ensures .read (c .before .before .before .before .before .if1 .left) in (q .fine .ready, omega (arith, more-nodes _ _ _ _ _ _ q))
+single-denied-requires t c κs = let q = c .before .before .before .item .ensures .read (c .before .if1 .left) in (q .fine .ready, omega (arith, more-nodes _ _ _ _ _ _ q))
 
-single-finished-requires : (t : ℕ) → single-lts.Need-finished-requires (single-uses t) (single-at t) single.Post
-single-finished-requires t c κs =
-    let b = c .before .before .before .before .before .before .before .before .before .before .before .before in
-    let a = b .args in
-    let q = c .before .before .before .before .before .before .before .before .item .ensures .read (c .before .before .before .before .before .before .if1 .left) in
-    let r = c .before .before .before .end .given in
-    let k : ShutIs (a .s .now) (c .before .before .before .before .before .before .before .before .item .result .at) (At (r .0 .0)) = subst (ShutIs (a .s .now) (c .before .before .before .before .before .before .before .before .item .result .at)) (r .1) (c .before .before .before .before .before .shut .ensures) in
-    omega (arith, k .0)
-
-single-enum-known-end-2 : (t : ℕ) → single-lts.Need-enum-known-end-2 (single-uses t) (single-at t) single.Post
-single-enum-known-end-2 t c = search needs
-
-single-refused-requires : (t : ℕ) → single-lts.Need-refused-requires (single-uses t) (single-at t) single.Post
-single-refused-requires t c κs = search needs
+single-closed-requires : (t : ℕ) → single-lts.Need-closed-requires (single-uses t) (single-at t) single.Post
+single-closed-requires t c κs = c .before .before .before .before .item .ensures .read (c .before .before .if1 .left) .inside
 
 single-returns-2 : (t : ℕ) → single-lts.Need-returns-2 (single-uses t) (single-at t) single.Post
-single-returns-2 t c =
-    let b = c .before .before .before .before .before .before .before .before .before .before .before .before .before in
-    let a = b .args in
-    let q = c .before .before .before .before .before .before .before .before .before .item .ensures .read (c .before .before .before .before .before .before .before .if1 .left) in
-    let r = c .before .before .before .before .end .given in
-    let k : ShutIs (a .s .now) (c .before .before .before .before .before .before .before .before .before .item .result .at) (At (r .0 .0)) = subst (ShutIs (a .s .now) (c .before .before .before .before .before .before .before .before .before .item .result .at)) (r .1) (c .before .before .before .before .before .before .shut .ensures) in
-    single-read _ _ _ _ _ q (r .0 .0) k (c .before .denied .ensures) _ (c .finished .ensures)
-
-single-returns-3 : (t : ℕ) → single-lts.Need-returns-3 (single-uses t) (single-at t) single.Post
-single-returns-3 t c =
-    let b = c .before .before .before .before .before .before .before .before .before .before .before in
-    let a = b .args in
-    let q = c .before .before .before .before .before .before .before .item .ensures .read (c .before .before .before .before .before .if1 .left) in
-    let r = c .before .before .end2 .given in
-    let k : ShutIs (a .s .now) (c .before .before .before .before .before .before .before .item .result .at) (Bad (r .0 .0)) = subst (ShutIs (a .s .now) (c .before .before .before .before .before .before .before .item .result .at)) (r .1) (c .before .before .before .before .shut .ensures) in
-    single-open _ _ _ _ _ q (r .0 .0) k (c .refused .ensures .0) (c .refused .ensures .1)
+single-returns-2 t c = single-read _ _ _ _ _ (c .before .before .before .before .before .item .ensures .read (c .before .before .before .if1 .left)) (c .before .denied .ensures) _ (c .closed .ensures)
 
 pub +item+list+pair+single-spec : {M : Type 1} → statement M
 +item+list+pair+single-spec = close μ-item μ-list μ-pair μ-single (λ t. item-lts.spec (item-uses t) (item-at t)
@@ -359,24 +271,14 @@ pub +item+list+pair+single-spec : {M : Type 1} → statement M
     (pair-add-item-2 t)
     (pair-item-requires-2 t)
     (pair-returns-2 t)
-    (pair-shut-requires t)
-    (pair-enum-known-end t)
     (pair-joined-requires t)
-    (pair-finished-requires t)
-    (pair-enum-known-end-2 t)
-    (pair-refused-requires t)
-    (pair-returns-3 t)
-    (pair-returns-4 t))
+    (pair-closed-requires t)
+    (pair-returns-3 t))
     λ t. single-lts.spec (single-uses t) (single-at t)
     single.Post
     (single-add-item t)
     (single-item-requires t)
     (single-returns t)
-    (single-shut-requires t)
-    (single-enum-known-end t)
     (single-denied-requires t)
-    (single-finished-requires t)
-    (single-enum-known-end-2 t)
-    (single-refused-requires t)
+    (single-closed-requires t)
     (single-returns-2 t)
-    (single-returns-3 t)
