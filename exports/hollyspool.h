@@ -41,7 +41,7 @@ enum hollyspool_number {
 
 /* An output of this many bytes is never too short for a search, for an encoding, for an import, or for an export. */
 #define HOLLYSPOOL_MOST_MODEL 12
-#define HOLLYSPOOL_MOST_ENCODED 6354
+#define HOLLYSPOOL_MOST_ENCODED 6374
 #define HOLLYSPOOL_MOST_BOOK 206
 #define HOLLYSPOOL_MOST_TEXT 1906
 

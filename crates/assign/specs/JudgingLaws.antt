@@ -13,7 +13,7 @@ use Rattle.logic.specs.Numbers.{answer}
 use Rattle.logic.specs.Checks.{Checks, Passes, Answers}
 use Rattle.logic.specs.CheckLaws.{Yes, Refuses, passes-of-yes, answers-refused, answers-after, answers-other, answers-passed, refuses-upto}
 use Rattle.logic.specs.Formula.{Form}
-use Rattle.logic.specs.Reflect.{Is, is-iff, fails}
+use Rattle.logic.specs.Reflect.{Is, false-true, fails}
 use Rattle.logic.specs.Tests.{pick}
 use Rattle.logic.specs.Table.{opOf, tree}
 use Rattle.logic.specs.Book.{bookFormula, most, varsOf, locsOf, nodes, root, bookChecks, Reads, Accepted, Known, Bodies}
@@ -21,7 +21,7 @@ use Rattle.logic.specs.KnownLaws.{counted}
 use Rattle.logic.specs.OpenLaws.{vars-low, locs-low, known, formula-is}
 use Rattle.logic.specs.Model.{Verdict, stackIn}
 use Rattle.cells.specs.Cells.{cells, Unnamed}
-use Rattle.rows.specs.Meaning.{Satisfies}
+use Rattle.rows.specs.Meaning.{Short, Satisfies}
 use Rattle.rows.specs.Table.{arraysIn, setsIn, arrays, sets, table, Encodable}
 use Rattle.rows.specs.LastRow.{satisfies-condition}
 use Rattle.rows.specs.Bounds.{mostArrays, ownArrays, ownSets}
@@ -67,9 +67,9 @@ module _ (q f : List ℕ) (v n a b : ℕ) (j : Judging q f v n a b) where
   pub few-arrays : a ≤ mostArrays
   few-arrays = omega (arith, j .arrays, arrays-most v f (j .table))
 
-  module _ (p s u : ℕ) where
+  module _ (s u : ℕ) where
     abbrev pub setting : Setting
-    setting = record { v = v; n = n; p = p; arrays = a; sets = b; base = v + a * n; stack = s; unnamed = u }
+    setting = record { v = v; n = n; arrays = a; sets = b; base = v + a * n; stack = s; unnamed = u }
 
     pub ready : (cs : List (List ℕ)) → cells s ≡ stackIn v q → Unnamed v n (cells s) u → Unpacked v n a q cs → Ready setting q cs
     ready cs e un up =
@@ -89,9 +89,17 @@ module _ (q f : List ℕ) (v n a b : ℕ) (j : Judging q f v n a b) where
     pub within : Within setting (tree f (root f)) 0 0 1 1
     within = record { array = omega arith; set = omega arith; arrays = omega (arith, j .arrays); sets = omega (arith, j .sets) }
 
-    -- the last row of the whole table
-    pub root-satisfies : (r : Told) → Judged setting q (tree f (root f)) 0 0 1 1 r → Is (r .holds) (Satisfies v (assigned v n a q) (table p (tree f (root f))))
-    root-satisfies r t = let c = satisfies-condition v p (assigned v n a q) (tree f (root f)) in is-iff (t .holds) (c .1) (c .0)
+    -- the last row of the whole table: LONG decides, where the formula's holds
+    module _ (p : ℕ) (r : Told) (t : Judged setting q (tree f (root f)) 0 0 1 1 r) where
+      pub long-satisfies : r .holds ≡ true → (x : Bool) → Is x (Short (assigned v n a q .array 0) (assigned v n a q .set 0) p) → Is x (Satisfies v (assigned v n a q) (table n p (tree f (root f))))
+      long-satisfies e x l =
+          let c = satisfies-condition v n p (assigned v n a q) (tree f (root f)) in
+          record { to = λ y. c .1 (t .holds .to e, l .to y); from = λ y. l .from (c .0 y .1) }
+
+      pub not-satisfied : r .holds ≡ false → Is false (Satisfies v (assigned v n a q) (table n p (tree f (root f))))
+      not-satisfied e =
+          let c = satisfies-condition v n p (assigned v n a q) (tree f (root f)) in
+          record { to = λ y. false-true y; from = λ y. absurd (fails (r .holds) (t .holds) e (c .0 y .0)) }
 
 -- ---- the judge's answer, from the answers of its steps
 
@@ -132,7 +140,7 @@ module _ (s f q : List ℕ) (v n p : ℕ) (w : Bodies s f v n p) where
       pub judging : Judging q f v n x y
       judging = record { table = known s f v n p w; few-vars = vars-low s f v n p w; few-locs = locs-low s f v n p w; arrays = ex; sets = ey; passes = passes }
 
-      pub assigns-verdict : (a : Answer) → Verdict (Satisfies v (assigned v n x q) (table p (tree f (root f)))) a → Assigns s q a
+      pub assigns-verdict : (a : Answer) → Verdict (Satisfies v (assigned v n x q) (table n p (tree f (root f)))) a → Assigns s q a
       assigns-verdict a d =
-          let same : Satisfies v (assigned v n x q) (table p (tree f (root f))) ≡ SatisfiesBook s q = rw (w .vars, w .locs, ex, w .path, w .formula) in
+          let same : Satisfies v (assigned v n x q) (table n p (tree f (root f))) ≡ SatisfiesBook s q = rw (w .vars, w .locs, ex, w .path, w .formula) in
           after-19 a (answers-passed ofBook (Verdict (SatisfiesBook s q)) a (subst Passes same-checks passes) (subst (λ (P : Type 0). Verdict P a) same d))

@@ -1,6 +1,6 @@
 -- Demand 2, second half, over bytes: the assignments that satisfy the table of a book have exactly the models that fit the book, by
 -- the statements of the judge of assignments and of the model judge. Assumes nothing.
-use mathlib.Core.Path.{_≡_, refl, sym, subst₂, _∙_, ap, ap₂}
+use mathlib.Core.Path.{_≡_, refl, sym, subst, subst₂, _∙_, ap, ap₂}
 use mathlib.Core.List.{List}
 use mathlib.Core.Logic.{inl}
 use Prim.Native.Nat.{ℕ, suc, _+_, _-_, _*_, _<_}
@@ -14,11 +14,12 @@ use Rattle.logic.specs.Numbers.{answer}
 use Rattle.logic.specs.Checks.{Passes}
 use Rattle.logic.specs.CheckLaws.{Refuses, passes-then, answers-passed, refuses-upto}
 use Rattle.logic.specs.Heap.{Map}
+use Rattle.logic.specs.Paths.{NoLongPath}
 use Rattle.logic.specs.Book.{bookFormula, varsOf, locsOf, pathOf, bookChecks, Accepted}
 use Rattle.logic.specs.BookLaws.{accepted-whole, book-zero}
 use Rattle.logic.specs.Model.{stackIn, heapIn, digitOf, modelChecks, judgeChecks, Fits, FitsBook, Verdict, Judges}
 use Rattle.logic.specs.ModelLaws.{model-stack, model-heap, verdict-zero, model-refuses}
-use Rattle.rows.specs.Assignment.{on}
+use Rattle.rows.specs.Assignment.{on, modelHeap}
 use Rattle.rows.specs.Table.{arrays, sets, Encodable}
 use Rattle.rows.specs.LastRow.{satisfies-condition}
 use Rattle.rows.specs.Symbols.{condition-kept}
@@ -97,13 +98,15 @@ fits-satisfied s m a p e c =
     let g = bytes-agree v n k b (f .is) (f .in-range) in
     let ok = bytes-pass v n k b (f .is) (f .in-range) in
     let r = assigned-in-range v n k b q ok in
-    let sat = satisfies-condition v (pathOf s) (assigned v n k q) (bookFormula s) .1
-    (condition-kept v (pathOf s) (bookFormula s) (f .is) (assigned v n k q) 0 0 1 1 (omega arith) (omega arith) g (satisfies-condition v (pathOf s) (f .is) (bookFormula s) .0 (f .satisfies))) in
+    let old = satisfies-condition v n (pathOf s) (f .is) (bookFormula s) .0 (f .satisfies) in
+    let heap : modelHeap (f .is) ≡ modelHeap (assigned v n k q) = ap₂ on (g .array 0 (omega arith)) (g .set 0 (omega arith)) in
+    let sat = satisfies-condition v n (pathOf s) (assigned v n k q) (bookFormula s) .1
+    (condition-kept v n (bookFormula s) (f .is) (assigned v n k q) 0 0 1 1 (omega arith) (omega arith) g (old .0), subst (NoLongPath (pathOf s)) heap (old .1)) in
     record {
       bytes = q;
       satisfies = answers-passed (assignChecks s q) (Verdict (SatisfiesBook s q)) (answer 0 0)
           (passes-then (bookChecks s) (assignRest s q) (y .0) (c, ok)) (inl (sat, refl));
       model = model-same v n (modelIn s q) m (model-of-passes v n k q r few (omega arith) .0) (y .1 .0 .0)
           (model-of-stack v n k q r few (omega arith) ∙ sym (g .stack) ∙ f .stack)
-          (model-of-heap v n k q r few (omega arith) ∙ ap₂ on (sym (g .array 0 (omega arith))) (sym (g .set 0 (omega arith))) ∙ f .heap);
+          (model-of-heap v n k q r few (omega arith) ∙ sym heap ∙ f .heap);
     }

@@ -10,6 +10,7 @@ use leaves::wide;
 use logic::Answer;
 use packing::packed;
 use rowjudge::Setting;
+use rowjudge::long_holds;
 use rowjudge::node;
 ghost use mathlib.Core.Path.{_≡_};
 ghost use mathlib.Core.Logic.{_⊎_};
@@ -88,13 +89,12 @@ fn in_range(q: &[u8], v: usize, n: usize, arrays: usize, sets: usize) -> Answer
 // Whether an assignment in range satisfies the table of the formula.
 fn satisfies(q: &[u8], f: &[u8], v: u64, n: u64, p: u64, arrays: usize, sets: usize) -> bool
     requires { ⌜ Judging (now q) (now f) v n arrays sets ⌝ }
-    ensures { λ r. ⌜ Is r (Satisfies v (assigned v n arrays (now (q .entry))) (table p (tree (now (f .entry)) (root (now (f .entry)))))) ⌝ }
+    ensures { λ r. ⌜ Is r (Satisfies v (assigned v n arrays (now (q .entry))) (table n p (tree (now (f .entry)) (root (now (f .entry)))))) ⌝ }
 {
     let stack = packed(q, 0, v as usize, false);
     let g = Setting {
         v,
         n,
-        p,
         arrays,
         sets,
         base: v as usize + arrays * (n as usize),
@@ -103,7 +103,11 @@ fn satisfies(q: &[u8], f: &[u8], v: u64, n: u64, p: u64, arrays: usize, sets: us
     };
     let values = unpack(q, v as usize, n as usize, arrays);
     let t = node(q, &values, f, g, f.len() / 3 - 1, 0, 0, 1, 1);
-    t.holds
+    if t.holds {
+        long_holds(q, &values, g, 0, 0, p)
+    } else {
+        false
+    }
 }
 
 // Whether the assignment satisfies the table of the book: 0 or 1, or the first refusal of the book (10 to 16), of its formula

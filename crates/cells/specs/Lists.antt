@@ -12,7 +12,8 @@ use Rattle.logic.specs.Holds.{Segment}
 use Rattle.logic.specs.Tests.{empty, without, chain}
 use Rattle.logic.specs.Reflect.{is-same, Is}
 use Rattle.logic.specs.Agree.{is-empty}
-use Rattle.logic.specs.Chains.{without-heap, is-segment}
+use Rattle.logic.specs.Chains.{is-segment}
+use Rattle.logic.specs.Without.{without-heap}
 use Rattle.cells.specs.Cells.{most, cells, Placed}
 use Rattle.cells.specs.Loops.{Walk}
 use Rattle.cells.specs.Packing.{cells-nil}
@@ -38,19 +39,19 @@ unfolding chain
 chain-step n zero a b h l e z = absurd (not-suc-le-zero l)
 chain-step n (suc k) a b h l e z = rw (ne-eqb a b e, ne-eqb (h a) 0 z, sub-one, sub-one)
 
-module _ (p a b w : ℕ) (kw : Heap most (cells w)) where
-  by-chain : (r : Bool) → r ≡ chain most p a b (cells w) → Is r (Segment p a b (cells w))
-  by-chain r e = subst (λ (c : Bool). Is c (Segment p a b (cells w))) (sym e) (is-segment most p a b (cells w) kw)
+module _ (n a b w : ℕ) (few : n ≤ most) (kw : Heap n (cells w)) where
+  by-chain : (r : Bool) → r ≡ chain n n a b (cells w) → Is r (Segment a b (cells w))
+  by-chain r e = subst (λ (c : Bool). Is c (Segment a b (cells w))) (sym e) (is-segment n a b (cells w) kw)
 
-  module _ (k x g : ℕ) (q : Walk p a b w k x g) where
-    pub walk-there : (r : Bool) → x ≡ b → Is r (Empty (cells g)) → Is r (Segment p a b (cells w))
-    walk-there r e i = by-chain r (is-same r (empty most (cells g)) i (is-empty most (cells g) (q .heap)) ∙ sym (chain-same most k x b (cells g) e) ∙ q .same)
+  module _ (k x g : ℕ) (q : Walk n a b w k x g) where
+    pub walk-there : (r : Bool) → x ≡ b → Is r (Empty (cells g)) → Is r (Segment a b (cells w))
+    walk-there r e i = by-chain r (is-same r (empty n (cells g)) i (is-empty n (cells g) (q .heap)) ∙ sym (chain-same n k x b (cells g) e) ∙ q .same)
 
-    pub walk-short : k ≤ 0 → ¬ (x ≡ b) → Is false (Segment p a b (cells w))
-    walk-short l e = by-chain false (sym (chain-short most k x b (cells g) l e) ∙ q .same)
+    pub walk-short : k ≤ 0 → ¬ (x ≡ b) → Is false (Segment a b (cells w))
+    walk-short l e = by-chain false (sym (chain-short n k x b (cells g) l e) ∙ q .same)
 
-    pub walk-broken : (d : ℕ) → ¬ (x ≡ b) → d ≡ cells g x → d ≡ 0 → Is false (Segment p a b (cells w))
-    walk-broken d e f z = by-chain false (sym (chain-broken most k x b (cells g) e (sym f ∙ z)) ∙ q .same)
+    pub walk-broken : (d : ℕ) → ¬ (x ≡ b) → d ≡ cells g x → d ≡ 0 → Is false (Segment a b (cells w))
+    walk-broken d e f z = by-chain false (sym (chain-broken n k x b (cells g) e (sym f ∙ z)) ∙ q .same)
 
     -- a location with a cell is not nil
     pub walk-some : (d : ℕ) → d ≡ cells g x → ¬ (d ≡ 0) → 1 ≤ x
@@ -60,15 +61,15 @@ module _ (p a b w : ℕ) (kw : Heap most (cells w)) where
         go zero e = absurd (z (e ∙ cells-nil g))
         go (suc y) e = omega arith
 
-    pub walk-on : (d r : ℕ) → 0 < k → ¬ (x ≡ b) → d ≡ cells g x → ¬ (d ≡ 0) → Placed d x r → Walk p a b w (k - 1) (d - 1) (bitXor g r)
+    pub walk-on : (d r : ℕ) → 0 < k → ¬ (x ≡ b) → d ≡ cells g x → ¬ (d ≡ 0) → Placed d x r → Walk n a b w (k - 1) (d - 1) (bitXor g r)
     walk-on d r l e f z pr =
         let cut : cells (bitXor g r) ≡ without x (cells g) = cut-is g x r (subst (λ (y : ℕ). Placed y x r) f pr) in
         let v = q .heap .low x in
         record {
-          same = rw (cut, f) (chain-step most k x b (cells g) l e (λ o. z (f ∙ o)) ∙ q .same);
+          same = rw (cut, f) (chain-step n k x b (cells g) l e (λ o. z (f ∙ o)) ∙ q .same);
           low = omega arith;
-          heap = rw cut (without-heap most x (cells g) (q .heap));
+          heap = rw cut (without-heap n x (cells g) (q .heap));
         }
 
-  pub walk-start : a ≤ most → Walk p a b w p a w
+  pub walk-start : a ≤ most → Walk n a b w n a w
   walk-start l = record { same = refl; low = l; heap = kw }

@@ -23,11 +23,11 @@ pub record Naming (v n s x i m : ℕ) : Type 0 where
 unfoldable pub Tabling : ℕ → ℕ → ℕ → ℕ → Type 0
 Tabling u w l t = (ℓ j : ℕ) → Is (inPart (cells t ℓ) j) ((ℓ < l) × (Touches ℓ (cells w ℓ) j × (inPart u j ≡ true)))
 
--- what is left of the segment from a to b over w, of at most p links, is one from x to b over g, of at most k
-pub record Walk (p a b w k x g : ℕ) : Type 0 where
-  pub same : chain most k x b (cells g) ≡ chain most p a b (cells w)
+-- what is left of the segment from a to b over w is one from x to b over g, of at most k links
+pub record Walk (n a b w k x g : ℕ) : Type 0 where
+  pub same : chain n k x b (cells g) ≡ chain n n a b (cells w)
   pub low : x ≤ most
-  pub heap : Heap most (cells g)
+  pub heap : Heap n (cells g)
 
 -- digit d is noted in v, or is one of the digits of x that are left
 abbrev pub Noted : ℕ → ℕ → ℕ → Type 0

@@ -183,14 +183,15 @@ pub fn is_points(a: u64, b: u64, w: u64) -> bool
     w == placed(b + 1, a)
 }
 
-// A list segment of at most p links: each cell that is left behind is taken out, so no location is met twice.
-pub fn is_list(p: u64, a: u64, b: u64, w: u64) -> bool
-    requires { ⌜ (a ≤ most) × Heap most (cells w) ⌝ }
-    ensures { λ r. ⌜ Is r (Segment p a b (cells w)) ⌝ }
+// A list segment: each cell that is left behind is taken out, so no location is met twice. It has at most n links, since a heap
+// over n locations has no more cells.
+pub fn is_list(n: u64, a: u64, b: u64, w: u64) -> bool
+    requires { ⌜ (n ≤ most) × (a ≤ most) × Heap n (cells w) ⌝ }
+    ensures { λ r. ⌜ Is r (Segment a b (cells w)) ⌝ }
 {
     let mut g = w;
     let mut x = a;
-    let mut k = p;
+    let mut k = n;
     while 0 < k {
         if x == b {
             return is_empty(g);

@@ -1,6 +1,6 @@
 -- How many rows, arrays and sets an accepted table's formula has at the most. Assumes nothing.
 use mathlib.Core.List.{List}
-use Prim.Native.Nat.{ℕ, zero-le, _≤_}
+use Prim.Native.Nat.{ℕ, zero-le, _+_, _≤_}
 use Rattle.logic.specs.Table.{tree}
 use Rattle.logic.specs.Book.{most, nodes, root, Known}
 use Rattle.logic.specs.KnownLaws.{last-node}
@@ -9,10 +9,11 @@ use Rattle.rows.specs.Bounds.{mostRows, mostArrays, mostSets}
 use Rattle.rows.specs.BoundsLaws as trees
 
 module _ (v : ℕ) (f : List ℕ) (w : Known v f) where
-  pub rows-most : (p : ℕ) → p ≤ most → rowsIn p (tree f (root f)) ≤ mostRows
-  rows-most p low = trees.rows-few v p f (nodes f) (w .sound) (w .tree) (root f) (last-node v f w) (w .few) low
+  -- with LONG and its AND
+  pub rows-most : (n : ℕ) → n ≤ most → rowsIn n (tree f (root f)) + 2 ≤ mostRows
+  rows-most n low = trees.rows-few v n f (nodes f) (w .sound) (w .tree) (root f) (last-node v f w) (w .few) low
 
-  -- whatever the path bound is
+  -- whatever the number of locations is
   pub arrays-most : arrays (tree f (root f)) ≤ mostArrays
   arrays-most = trees.arrays-few v 0 f (nodes f) (w .sound) (w .tree) (root f) (last-node v f w) (w .few) zero-le
 

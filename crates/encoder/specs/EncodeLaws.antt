@@ -16,54 +16,56 @@ use Rattle.logic.specs.CheckLaws.{Yes, answers-refused, answers-after}
 use Rattle.logic.specs.Reflect.{Is, fails}
 use Rattle.logic.specs.Formula.{Form}
 use Rattle.logic.specs.Table.{opOf, tree}
-use Rattle.logic.specs.Book.{headOf, nodes, root, bookFormula, pathOf, bookChecks, Reads, Accepted, Known, Bodies}
+use Rattle.logic.specs.Weight.{sum}
+use Rattle.logic.specs.Book.{headOf, nodes, root, bookFormula, locsOf, bookChecks, Reads, Accepted, Known, Bodies}
 use Rattle.logic.specs.KnownLaws.{counted}
-use Rattle.logic.specs.OpenLaws.{path-low, known, formula-is}
+use Rattle.logic.specs.OpenLaws.{locs-low, known, formula-is}
 use Rattle.rows.specs.declared.Next.{Next}
 use Rattle.rows.specs.Row.{bytesOf}
-use Rattle.rows.specs.Table.{Encodable, start, rowsIn, table}
-use Rattle.rows.specs.TableLaws.{rows-long}
-use Rattle.logic.specs.Weight.{sum}
+use Rattle.rows.specs.Row.Row.{LONG}
+use Rattle.rows.specs.Table.{Encodable, start, also, rowsIn, rowsOf, table}
+use Rattle.rows.specs.TableLaws.{rows-long, table-long}
 use Rattle.rows.specs.Bounds.{mostRows, ownRows}
 use Rattle.rows.specs.BoundsLaws.{rows-add}
 use Rattle.rows.specs.Output.{outBook, encodingOf, encodeRest, Encodes}
 use Rattle.rows.specs.OutputLaws.{encoding-long}
 use Rattle.encodable.specs.CountingLaws.{rows-most, arrays-most, sets-most}
-use Rattle.rowbytes.specs.Written.{put}
+use Rattle.rowbytes.specs.Written.{put, Puts}
+use Rattle.rowbytes.specs.WrittenLaws.{row-after, puts-as, space-less, rows-rows}
 use Rattle.ownrows.specs.Encoded.{Room, Encoded}
-use Rattle.encoder.specs.Writable.{Writable}
+use Rattle.encoder.specs.Writable.{RoomTable, Writable}
 
 -- ---- how many rows there are
 
 -- a node's own, as the code goes through the operators
-module _ (p o : ℕ) where
-  pub own-pair : o ≤ 3 → ownRows p o ≡ 3
+module _ (n o : ℕ) where
+  pub own-pair : o ≤ 3 → ownRows n o ≡ 3
   unfolding ownRows
   own-pair l = rw (le-leb o 3 l)
 
-  pub own-ls : o ≡ 4 → ownRows p o ≡ p + 1 + p
+  pub own-ls : o ≡ 4 → ownRows n o ≡ n + 1 + n
   unfolding ownRows
   own-ls e = rw e
 
-  pub own-one : 5 ≤ o → o ≤ 8 → ¬ (o ≡ 7) → ownRows p o ≡ 1
+  pub own-one : 5 ≤ o → o ≤ 8 → ¬ (o ≡ 7) → ownRows n o ≡ 1
   unfolding ownRows
-  own-one h l n = rw (lt-leb o 3 (omega arith), lt-leb o 4 h, ne-eqb o 7 n, le-leb o 8 l)
+  own-one h l d = rw (lt-leb o 3 (omega arith), lt-leb o 4 h, ne-eqb o 7 d, le-leb o 8 l)
 
-  pub own-but : o ≡ 7 → ownRows p o ≡ 2
+  pub own-but : o ≡ 7 → ownRows n o ≡ 2
   unfolding ownRows
   own-but e = rw e
 
-  pub own-sep : o ≡ 9 → ownRows p o ≡ 5
+  pub own-sep : o ≡ 9 → ownRows n o ≡ 5
   unfolding ownRows
   own-sep e = rw e
 
-  pub own-sept : o ≡ 10 → ownRows p o ≡ 7
+  pub own-sept : o ≡ 10 → ownRows n o ≡ 7
   unfolding ownRows
   own-sept e = rw e
 
--- the sum over the nodes is the number of rows
-pub rows-are : (v : ℕ) (f : List ℕ) → Known v f → (p r : ℕ) → r ≡ sum (nodes f) (λ k. ownRows p (opOf f k)) → r ≡ rowsIn p (tree f (root f))
-rows-are v f w p r e = e ∙ sym (counted v f w (rowsIn p) (λ o x y. ownRows p o) (rows-add p))
+-- the sum over the nodes is the number of the formula's rows
+pub rows-are : (v : ℕ) (f : List ℕ) → Known v f → (n r : ℕ) → r ≡ sum (nodes f) (λ k. ownRows n (opOf f k)) → r + 2 ≡ rowsIn n (tree f (root f)) + 2
+rows-are v f w n r e = ap (λ (k : ℕ). k + 2) (e ∙ sym (counted v f w (rowsIn n) (λ o x y. ownRows n o) (rows-add n)))
 
 -- ---- the whole book
 
@@ -85,28 +87,39 @@ part-written h bs o x y e d f =
     ∙ ap (λ (a : List ℕ). take 14 a ++ put 0 bs (drop 14 a)) d
     ∙ head-rows h bs o e
 
-module _ (f : List ℕ) (p r : ℕ) (o : List ℕ) (w : Writable f p r o) where
-  rows-low : rowsIn p (tree f (root f)) ≤ mostRows
-  rows-low = rows-most (w .known .0) f (w .known .1) p (w .path)
+-- the formula's rows, and behind them LONG and its AND
+module _ (n p : ℕ) (F : Form) (o : List ℕ) (h : RoomTable n F o) where
+  pub room-formula : Room n F start o
+  room-formula = record { space = space-less (rowsIn n F) (h .space) (omega arith); array = h .array; set = h .set }
+
+  pub table-written : {t u : Next} {o₁ o₂ : List ℕ} → Encoded n F 0 0 start t o o₁ → Puts t 2 0 0 (bytesOf (also (t .row - 1) (LONG 0 0 p))) u o₁ o₂ → o₂ ≡ put 0 (bytesOf (table n p F)) o
+  table-written {t} q r =
+      let e : t .row - 1 ≡ rowsIn n F - 1 = omega (arith, row-after q) in
+      rows-rows (rowsOf n F 0 0 start) (also (rowsIn n F - 1) (LONG 0 0 p)) (rows-long n F 0 0 start) (omega (arith, h .space .out)) q
+      (puts-as refl refl refl (ap (λ (k : ℕ). bytesOf (also k (LONG 0 0 p))) e) r) .bytes
+
+module _ (f : List ℕ) (n r : ℕ) (o : List ℕ) (w : Writable f n r o) where
+  rows-low : rowsIn n (tree f (root f)) + 2 ≤ mostRows
+  rows-low = rows-most (w .known .0) f (w .known .1) n (w .locs)
 
   pub bytes-low : 10 * r < 65536
   bytes-low = omega (arith, w .rows, rows-low)
 
   -- there is room behind the contents and the bounds, and numbers for the rows, arrays and sets
-  pub room-behind : (o′ : List ℕ) → length o′ ≡ length o - 14 → Room p (tree f (root f)) start o′
+  pub room-behind : (o′ : List ℕ) → length o′ ≡ length o - 14 → RoomTable n (tree f (root f)) o′
   room-behind o′ e =
       let i = arrays-most (w .known .0) f (w .known .1) in
       let j = sets-most (w .known .0) f (w .known .1) in
       record { space = record { out = omega (arith, w .out, w .rows); row = omega (arith, rows-low) }; array = omega (arith, i); set = omega (arith, j) }
 
-  pub book-written : (v n : ℕ) (t : Next) (x y : List ℕ) → x ≡ headOf 3 v n p (10 * r) ++ drop 14 o
-      → Encoded p (tree f (root f)) 0 0 start t (take (length x - 14) (drop 14 x)) y
-      → take 14 x ++ (y ++ drop (length x - 14) (drop 14 x)) ≡ put 0 (outBook v n p (table p (tree f (root f)))) o
+  pub book-written : (v p : ℕ) (x y : List ℕ) → x ≡ headOf 3 v n p (10 * r) ++ drop 14 o
+      → y ≡ put 0 (bytesOf (table n p (tree f (root f)))) (take (length x - 14) (drop 14 x))
+      → take 14 x ++ (y ++ drop (length x - 14) (drop 14 x)) ≡ put 0 (outBook v n p (table n p (tree f (root f)))) o
   unfolding put
-  book-written v n t x y d q =
-      let e : 10 * r ≡ 10 * length (table p (tree f (root f))) = ap (λ (k : ℕ). 10 * k) (w .rows ∙ sym (rows-long p (tree f (root f)) 0 0 start)) in
-      part-written (headOf 3 v n p (10 * length (table p (tree f (root f))))) (bytesOf (table p (tree f (root f)))) o x y refl
-      (d ∙ ap (λ (k : ℕ). headOf 3 v n p k ++ drop 14 o) e) (q .bytes)
+  book-written v p x y d q =
+      let e : 10 * r ≡ 10 * length (table n p (tree f (root f))) = ap (λ (k : ℕ). 10 * k) (w .rows ∙ sym (table-long n p (tree f (root f)))) in
+      part-written (headOf 3 v n p (10 * length (table n p (tree f (root f))))) (bytesOf (table n p (tree f (root f)))) o x y refl
+      (d ∙ ap (λ (k : ℕ). headOf 3 v n p k ++ drop 14 o) e) q
 
 -- ---- the encoder's answer, from the answers of its steps
 
@@ -133,9 +146,9 @@ module _ (s o f : List ℕ) (v n p : ℕ) (q : Bodies s f v n p) where
         refused = λ z. refl;
       }
 
-  module _ (b : Bool) (i : Is b (Encodable (tree f (root f)))) (e : b ≡ true) (r : ℕ) (c : r ≡ rowsIn p (tree f (root f))) where
+  module _ (b : Bool) (i : Is b (Encodable (tree f (root f)))) (e : b ≡ true) (r : ℕ) (c : r ≡ rowsIn n (tree f (root f)) + 2) where
     size : length (encodingOf s) ≡ 14 + 10 * r
-    size = let d : r ≡ rowsIn (pathOf s) (bookFormula s) = c ∙ ap₂ rowsIn (q .path) (formula-is s f v n p q) in omega (arith, encoding-long s)
+    size = let d : rowsIn n (tree f (root f)) ≡ rowsIn (locsOf s) (bookFormula s) = ap₂ rowsIn (q .locs) (formula-is s f v n p q) in omega (arith, encoding-long s)
 
     pub too-short : (a : Answer) → length o < 14 + 10 * r → a ≡ answer 20 0 → Encodes s o a o
     unfolding Answers
@@ -146,10 +159,10 @@ module _ (s o f : List ℕ) (v n p : ℕ) (q : Bodies s f v n p) where
           refused = λ z. refl;
         }
 
-    pub writable : 14 + 10 * r ≤ length o → Writable f p r o
-    writable l = record { known = (v, known s f v n p q); path = path-low s f v n p q; rows = c; out = l }
+    pub writable : 14 + 10 * r ≤ length o → Writable f n r o
+    writable l = record { known = (v, known s f v n p q); locs = locs-low s f v n p q; rows = c; out = l }
 
-    pub encoded : (a : Answer) (now : List ℕ) → 14 + 10 * r ≤ length o → now ≡ put 0 (outBook v n p (table p (tree f (root f)))) o → a ≡ answer 0 0 → Encodes s o a now
+    pub encoded : (a : Answer) (now : List ℕ) → 14 + 10 * r ≤ length o → now ≡ put 0 (outBook v n p (table n p (tree f (root f)))) o → a ≡ answer 0 0 → Encodes s o a now
     unfolding Answers encodingOf put
     encoded a now l d g =
         record {
@@ -158,7 +171,7 @@ module _ (s o f : List ℕ) (v n p : ℕ) (q : Bodies s f v n p) where
           refused = λ z. absurd (z (ap (λ (r : Answer). r .number) g));
         }
       where
-        same : put 0 (outBook v n p (table p (tree f (root f)))) o ≡ put 0 (encodingOf s) o
+        same : put 0 (outBook v n p (table n p (tree f (root f)))) o ≡ put 0 (encodingOf s) o
         same = unfold encodingOf in rw (q .vars, q .locs, q .path, q .formula)
 
         front : put 0 (encodingOf s) o ≡ encodingOf s ++ drop (length (encodingOf s)) o

@@ -8,27 +8,29 @@ use leaves::answer_of;
 use leaves::index;
 use leaves::short;
 use logic::Answer;
+use ownrows::put_long;
 use rows::Next;
 use treerows::node;
 ghost use mathlib.Core.Path.{_≡_};
-ghost use Prim.Native.Nat.{_≤_, _<_};
+ghost use Prim.Native.Nat.{_+_, _≤_, _<_};
 ghost use lib.ListN.{length};
 ghost use Rattle.logic.specs.Table.{tree};
-ghost use Rattle.logic.specs.Book.{root, KnownTable};
+ghost use Rattle.logic.specs.Book.{most, root, KnownTable};
+ghost use Rattle.rows.specs.Row.{bytesOf};
 ghost use Rattle.rows.specs.Table.{rowsIn, table};
 ghost use Rattle.rows.specs.Bounds.{ownRows};
 ghost use Rattle.rows.specs.Output.{outBook, Encodes};
 ghost use Rattle.rowbytes.specs.Written.{put};
-ghost use Rattle.encoder.specs.Writable.{Writable};
+ghost use Rattle.encoder.specs.Writable.{RoomTable, Writable};
 
 // How many own rows a node has.
-fn own_rows(op: u8, p: u8) -> u16
-    requires { ⌜ (1 ≤ op) × (op ≤ 10) × (p < 255) ⌝ }
-    ensures { λ r. ⌜ (r ≡ ownRows p op) × (r < 512) ⌝ }
+fn own_rows(op: u8, n: u8) -> u16
+    requires { ⌜ (1 ≤ op) × (op ≤ 10) × (n < 255) ⌝ }
+    ensures { λ r. ⌜ (r ≡ ownRows n op) × (r < 512) ⌝ }
 {
     match op {
         1..=3 => 3,
-        4 => short(p) + 1 + short(p),
+        4 => short(n) + 1 + short(n),
         5..=6 | 8 => 1,
         7 => 2,
         9 => 5,
@@ -36,34 +38,42 @@ fn own_rows(op: u8, p: u8) -> u16
     }
 }
 
-// How many rows the table has.
-fn row_count(f: &[u8], p: u8) -> u16
-    requires { ⌜ KnownTable (now f) × (p < 255) ⌝ }
-    ensures { λ r. ⌜ r ≡ rowsIn p (tree (now (f .entry)) (root (now (f .entry)))) ⌝ }
+// How many rows the table has: those of the formula, LONG and its AND.
+fn row_count(f: &[u8], n: u8) -> u16
+    requires { ⌜ KnownTable (now f) × (n < 255) ⌝ }
+    ensures { λ r. ⌜ r ≡ rowsIn n (tree (now (f .entry)) (root (now (f .entry)))) + 2 ⌝ }
 {
     let end = f.len() / 3;
     let mut r: u16 = 0;
     let mut k: usize = 0;
     while k < end {
-        r += own_rows(f[3 * k], p);
+        r += own_rows(f[3 * k], n);
         k += 1;
     }
-    r
+    r + 2
 }
 
-// Writes the whole book, of that many rows, to the front of the output.
-fn write(out: &mut [u8], f: &[u8], v: u8, n: u8, p: u8, rows: u16)
-    requires { ⌜ Writable (now f) p rows (now out) ⌝ }
-    ensures { λ r. ⌜ now (out .exit) ≡ put 0 (outBook v n p (table p (tree (now (f .entry)) (root (now (f .entry)))))) (now (out .entry)) ⌝ }
+// Writes the table: the rows of the formula, LONG and its AND.
+fn put_table(out: &mut [u8], f: &[u8], n: u8, p: u8)
+    requires { ⌜ KnownTable (now f) × (n ≤ most) × RoomTable n (tree (now f) (root (now f))) (now out) ⌝ }
+    ensures { λ r. ⌜ now (out .exit) ≡ put 0 (bytesOf (table n p (tree (now (f .entry)) (root (now (f .entry)))))) (now (out .entry)) ⌝ }
 {
-    put_head(out, 3, v, n, p, 10 * rows);
     let st = Next {
         row: 0,
         array: 1,
         set: 1,
     };
-    let end = f.len() / 3 - 1;
-    let _t = node(&mut out[HEAD..], f, p, end, 0, 0, st);
+    let t = node(out, f, n, f.len() / 3 - 1, 0, 0, st);
+    let _u = put_long(out, t, p);
+}
+
+// Writes the whole book, of that many rows, to the front of the output.
+fn write(out: &mut [u8], f: &[u8], v: u8, n: u8, p: u8, rows: u16)
+    requires { ⌜ Writable (now f) n rows (now out) ⌝ }
+    ensures { λ r. ⌜ now (out .exit) ≡ put 0 (outBook v n p (table n p (tree (now (f .entry)) (root (now (f .entry)))))) (now (out .entry)) ⌝ }
+{
+    put_head(out, 3, v, n, p, 10 * rows);
+    put_table(&mut out[HEAD..], f, n, p);
 }
 
 // The encoding of a book, at the front of the output: number 0, or the refusal of the first part that fails, and then nothing
@@ -80,11 +90,11 @@ pub fn encode(book: &[u8], out: &mut [u8]) -> Answer
     if !encodable(f, f.len() / 3 - 1) {
         return answer_of(logic::NOT_ENCODABLE, 0);
     }
-    let p = opened.p as u8;
-    let rows = row_count(f, p);
+    let n = opened.n as u8;
+    let rows = row_count(f, n);
     if out.len() < HEAD + 10 * index(rows) {
         return answer_of(logic::OUTPUT_LENGTH, 0);
     }
-    write(out, f, opened.v as u8, opened.n as u8, p, rows);
+    write(out, f, opened.v as u8, n, opened.p as u8, rows);
     answer_of(logic::YES, 0)
 }

@@ -1,4 +1,5 @@
-// Document 01's examples: P1's bytes, and those that document 01 wants proved once more, beside the second judge.
+// Document 01's examples: P1's bytes, and those that document 01 wants proved once more, beside the second judge; and those of
+// document 02's path bound.
 use crate::report::Tally;
 use crate::report::compared;
 use crate::report::run;
@@ -6,7 +7,7 @@ use notation::front_of_page;
 
 const P1_BOOK: [u8; 17] = [2, 1, 11, 0, 3, 0, 2, 14, 0, 3, 0, 1, 1, 1, 3, 1, 1];
 
-const P1_ENCODING: [u8; 44] = [
+const P1_ENCODING: [u8; 64] = [
     2,
     1,
     11,
@@ -16,7 +17,7 @@ const P1_ENCODING: [u8; 44] = [
     3,
     14,
     0,
-    30,
+    50,
     0,
     1,
     1,
@@ -51,6 +52,26 @@ const P1_ENCODING: [u8; 44] = [
     0,
     0,
     0,
+    13,
+    1,
+    0,
+    0,
+    0,
+    0,
+    0,
+    0,
+    0,
+    0,
+    7,
+    0,
+    2,
+    0,
+    3,
+    0,
+    0,
+    0,
+    0,
+    0,
 ];
 
 pub fn bytes_of_p1(t: Tally) -> Tally {
@@ -58,7 +79,7 @@ pub fn bytes_of_p1(t: Tally) -> Tally {
     let mut page = [0u8; 256];
     let size = notation::book([1, 1, 1], b"x>x", &mut page);
     let with_book = compared(t, b"01 P1, the book", front_of_page(&page, size), &book);
-    let mut rows = [0u8; 44];
+    let mut rows = [0u8; 64];
     encoder::encode(&book, &mut rows);
     let encoding = P1_ENCODING;
     let with_rows = compared(with_book, b"01 P1, the encoding", &rows, &encoding);
@@ -93,6 +114,29 @@ pub fn models(t: Tally) -> Tally {
 01 P13 | 0 1 0 | (E & !(N @ N)) | none
 01 P14 | 2 2 2 | x>y | fits 12;2-
 01 P14 | 2 2 2 | y>x | not 12;2-
+",
+    )
+}
+
+// Document 02's path bound: on the model, and not on lists, added heaps or wholes.
+pub fn paths(t: Tally) -> Tally {
+    run(
+        t,
+        b"\
+02 4, a list of two links | 1 2 1 | !x~0 | not 1;20
+02 4, a list of two links | 1 2 2 | !x~0 | not 1;20
+02 4, even where all is true | 1 2 1 | (x=x + !x=x) | not 1;20
+02 4, a link to a free location | 1 2 0 | (x>x + !x>x) | not 1;2-
+02 4, a cell that points to itself | 1 1 0 | x>x | fits 1;1
+02 4, a cycle of two cells | 2 2 1 | (x>y * y>x) | fits 12;21
+02 4, a cycle of two cells | 2 2 0 | (x>y * y>x) | not 12;21
+02 4, a cycle of three cells | 3 3 2 | ((x>y * y>z) * z>x) | fits 123;231
+02 4, a cycle of three cells | 3 3 1 | ((x>y * y>z) * z>x) | none
+02 4, not from location 1 | 2 3 1 | (x~0 * y=y) | not 32;-02
+02 4, the added heap | 1 1 0 | (x>0 @ x>0) | fits 1;-
+02 4, the whole | 2 2 1 | (x>y @ x~0) | fits 12;-0 | 12 00 20 2 1 3
+02 4, three links | 3 3 2 | (x>y * (y>z * z>0)) | none
+02 4, three links | 3 3 3 | (x>y * (y>z * z>0)) | found
 ",
     )
 }

@@ -61,7 +61,7 @@ fn sweep_stack(t: Swept, book: &[u8], wanted: &[u8; 12], bounds: [u8; 3], stack:
             bounds,
             w,
             h,
-            second::member(&sets, root, wide(h)),
+            second::fits(&sets, root, h, w),
         );
     }
     next

@@ -1,5 +1,5 @@
-// Document 003's worked examples, chapter by chapter, each with its place there. Its variables are named x y z u v here, and a
-// list's path bound is n, so that no chain within the bounds is too long.
+// Document 003's worked examples, chapter by chapter, each with its place there. Its variables are named x y z u v here, and the
+// path bound is n, so that no path within the bounds is too long.
 //
 // The pictures of the figures are not in the copy that was read: a figure's model here is one that its caption and the text
 // describe, made as small as they allow. Two lines go against what 003 says, and name the definition that decides instead. The

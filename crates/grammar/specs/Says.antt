@@ -9,8 +9,8 @@ use Rattle.grammar.specs.Phrase.{Term, Phrase, emp, join, deny, relate}
 use Rattle.grammar.specs.Phrase.Join.{and-word, or-word, sep-word, wand-word}
 use Rattle.grammar.specs.Phrase.Atom.{equal-word, distinct-word, pto-word, ls-word}
 
--- v variables, n locations, lists of at most p links; ν gives each term's variable, and s each variable's location
-module _ (v n p : ℕ) (ν : Term → ℕ) (s : Map) where
+-- v variables, n locations; ν gives each term's variable, and s each variable's location
+module _ (v n : ℕ) (ν : Term → ℕ) (s : Map) where
   unfoldable pub Says : Phrase → Map → Type 0
   Says emp h = Empty h
   Says (deny F) h = ¬ Says F h
@@ -24,4 +24,4 @@ module _ (v n p : ℕ) (ν : Term → ℕ) (s : Map) where
   Says (relate equal-word x y) h = s (ν x) ≡ s (ν y)
   Says (relate distinct-word x y) h = ¬ (s (ν x) ≡ s (ν y))
   Says (relate pto-word x y) h = Points (s (ν x)) (s (ν y)) h
-  Says (relate ls-word x y) h = Segment p (s (ν x)) (s (ν y)) h
+  Says (relate ls-word x y) h = Segment (s (ν x)) (s (ν y)) h

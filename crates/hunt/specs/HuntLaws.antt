@@ -10,10 +10,8 @@ use Rattle.logic.specs.declared.Answer.{Answer}
 use Rattle.logic.specs.Numbers.{yes-number, no-number, spent-number}
 use Rattle.logic.specs.Heap.{Map}
 use Rattle.logic.specs.Formula.{Form}
-use Rattle.logic.specs.Holds.{Holds}
-use Rattle.logic.specs.Truth.{truth}
 use Rattle.logic.specs.Reflect.{Is}
-use Rattle.logic.specs.TruthHolds.{truth-holds}
+use Rattle.logic.specs.Model.{Fits}
 use Rattle.logic.specs.Candidates.{total, modelBytes, modelOf}
 use Rattle.logic.specs.CandidateLaws.{stack-of-number, heap-of-number}
 use Rattle.logic.specs.Search.{CandidateFits, searched, Outcome}
@@ -24,13 +22,11 @@ use Rattle.candidates.specs.Counter.{WithinBounds, number, Next}
 use Rattle.hunt.specs.Hunt.{At, Going, Hunted}
 
 -- the judge's word on a candidate is on its number
-pub fits-is : (c : Candidate) (p : ℕ) (F : Form) (r : Bool) → WithinBounds c → r ≡ truth (c .vars) (c .locs) p F (cells (c .stack)) (cells (c .heap)) → Is r (CandidateFits (c .vars) (c .locs) p F (number c))
-fits-is c p F r ok e =
-    subst (λ (b : Bool). Is b (CandidateFits (c .vars) (c .locs) p F (number c))) (sym e)
-    (subst₂ (λ (s h : Map). Is (truth (c .vars) (c .locs) p F (cells (c .stack)) (cells (c .heap))) (Holds (c .vars) (c .locs) p F s h))
+pub fits-is : (c : Candidate) (p : ℕ) (F : Form) (r : Bool) → WithinBounds c → Is r (Fits (c .vars) (c .locs) p F (cells (c .stack)) (cells (c .heap))) → Is r (CandidateFits (c .vars) (c .locs) p F (number c))
+fits-is c p F r ok q =
+    subst₂ (λ (s h : Map). Is r (Fits (c .vars) (c .locs) p F s h))
     (sym (stack-of-number (c .vars) (c .locs) (cells (c .stack)) (cells (c .heap)) (ok .stack) (ok .heap)))
-    (sym (heap-of-number (c .vars) (c .locs) (cells (c .stack)) (cells (c .heap)) (ok .stack) (ok .heap)))
-    (truth-holds (c .vars) (c .locs) p (cells (c .stack)) (ok .stack .low) F (cells (c .heap)) (ok .heap)))
+    (sym (heap-of-number (c .vars) (c .locs) (cells (c .stack)) (cells (c .heap)) (ok .stack) (ok .heap))) q
 
 -- the set of the locations that are not named, for the next candidate, where the stack is the same
 pub unnamed-kept : (c r : Candidate) (u : ℕ) → Next c r → Unnamed (c .vars) (c .locs) (cells (c .stack)) u → ¬ (r .heap ≡ 0) → Unnamed (r .vars) (r .locs) (cells (r .stack)) u

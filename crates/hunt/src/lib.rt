@@ -4,6 +4,7 @@ use candidates::Candidate;
 use judge::node_holds;
 use logic::Answer;
 use logic::Table;
+use paths::is_short;
 ghost use mathlib.Core.Path.{_≡_};
 ghost use mathlib.Core.Logic.{_⊎_};
 ghost use Prim.Native.Nat.{suc, _≤_, _<_};
@@ -27,13 +28,18 @@ fn unnamed_for(c: Candidate, u: u64) -> u64
     u
 }
 
-// Whether the candidate fits node k of the table f; u is the set of the locations that are not named.
+// Whether the candidate fits node k of the table f; u is the set of the locations that are not named. The two tests of
+// `judge::fits` stand here themselves: most candidates fail the first, and it is then part of the loop.
 fn fits(f: &Table, k: usize, p: u64, c: Candidate, u: u64) -> bool
     requires { ⌜ (k < room) × Sound (c .vars) (now f) (suc k) × WithinBounds c × Unnamed (c .vars) (c .locs) (cells (c .stack)) u ⌝ }
     ensures { λ r. ⌜ Is r (CandidateFits (c .vars) (c .locs) p (tree (now (f .entry)) k) (number c)) ⌝ }
 {
     let b = [c.vars, c.locs, p, c.stack, u];
-    node_holds(f, k, &b, c.heap)
+    if node_holds(f, k, &b, c.heap) {
+        is_short(c.locs, p, c.heap)
+    } else {
+        false
+    }
 }
 
 // What a hunt gives back: its answer, and the candidate that it stopped at.

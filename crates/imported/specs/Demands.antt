@@ -1,13 +1,12 @@
--- What the judge and the search answer for an imported book speaks of the text, in its own words; and more locations lose no
--- model of it. Assumes nothing.
-use mathlib.Core.Path.{_≡_, sym, _∙_, subst}
+-- What the judge and the search answer for an imported book speaks of the text, in its own words; and neither more locations nor
+-- longer paths lose a model of it. Assumes nothing.
+use mathlib.Core.Path.{sym, _∙_, subst}
 use mathlib.Core.List.{List}
 use mathlib.Core.Logic.{_⊎_, inl, inr, ⊎-elim}
 use Prim.Native.Nat.{ℕ, zero, suc, _+_, _≤_}
 use native.Mathlib.Omega.{arith}
 use lib.ListN.{length}
 use Rattle.logic.specs.declared.Answer.{Answer}
-use Rattle.logic.specs.Numbers.{yes-number, no-number}
 use Rattle.logic.specs.Checks.{Checks, done, check, upto, Passes, Answers}
 use Rattle.logic.specs.CheckLaws.{answers-split, passes-none, passes-more, passes-then}
 use Rattle.logic.specs.Heap.{Map, Stack, Heap}
@@ -24,13 +23,15 @@ use Rattle.logic.specs.Strays.{NamedByAtom, nameChecks}
 use Rattle.logic.specs.Search.{CandidateFits, Outcome, found, none, spent, roomChecks, searchRest, Searches}
 use Rattle.logic.specs.SearchLaws.{searches-outcome}
 use Rattle.laws.specs.Negations.{NoSeptraction, NoneUnderNegation}
+use Rattle.laws.specs.NeverNone.{NeverNone}
+use Rattle.laws.specs.LongerPaths.{found-never-none-longer}
 use Rattle.laws.specs.MoreLocations.{found-never-none}
 use Rattle.grammar.specs.Phrase.{Term, Phrase, emp, join, deny, relate}
 use Rattle.grammar.specs.Phrase.Join.{and-word, or-word, sep-word, wand-word}
 use Rattle.grammar.specs.Phrase.Atom.{equal-word, distinct-word, pto-word, ls-word}
 use Rattle.grammar.specs.Meaning.{namesOf, numberOf, formOf, meaning}
 use Rattle.grammar.specs.SaysLaws.{Iff, says-holds}
-use Rattle.imported.specs.Imported.{namesIn, TextSays, NoWand, Imported}
+use Rattle.imported.specs.Imported.{namesIn, TextFits, NoWand, Imported}
 
 -- each of two facts follows from the other: then what is answered by the one is answered by the other
 verdict-iff : (P Q : Type 0) (a : Answer) → Iff P Q → Verdict P a → Verdict Q a
@@ -63,8 +64,10 @@ module _ (s : List ℕ) (n p : ℕ) (F : Phrase) (b : List ℕ) (i : Imported s 
       (subst (λ (k : ℕ). P (namesIn F) k (pathOf b) (bookFormula b)) (i .locs)
       (subst (λ (k : ℕ). P k (locsOf b) (pathOf b) (bookFormula b)) (i .vars) q)))
 
-  meaning-says : (S H : Map) → Stack (namesIn F) n S → Heap n H → Iff (Fits (namesIn F) n p (meaning F) S H) (TextSays n p F S H)
-  meaning-says S H ks kh = let q = says-holds (namesIn F) n p (numberOf (namesOf F)) S (ks .low) F H kh in record { to = q .from; from = q .to }
+  meaning-fits : (S H : Map) → Stack (namesIn F) n S → Heap n H → Iff (Fits (namesIn F) n p (meaning F) S H) (TextFits n p F S H)
+  meaning-fits S H ks kh =
+      let q = says-holds (namesIn F) n (numberOf (namesOf F)) S (ks .low) F H kh in
+      record { to = λ y. (q .from (y .0), y .1); from = λ y. (q .to (y .0), y .1) }
 
   -- ---- the judge
 
@@ -76,10 +79,10 @@ module _ (s : List ℕ) (n p : ℕ) (F : Phrase) (b : List ℕ) (i : Imported s 
       (⊎-elim (λ u. absurd (u .1 (i .accepted))) (λ u. u .1) (answers-split (bookChecks b) (modelChecks (varsOf b) (locsOf b) m) (Verdict (FitsBook b m)) r q))
 
   -- in the text's own words
-  pub judged-text : (m : List ℕ) (r : Answer) → Judges b m r → Answers (modelChecks (namesIn F) n m) (Verdict (TextSays n p F (stackIn (namesIn F) m) (heapIn (namesIn F) n m))) r
+  pub judged-text : (m : List ℕ) (r : Answer) → Judges b m r → Answers (modelChecks (namesIn F) n m) (Verdict (TextFits n p F (stackIn (namesIn F) m) (heapIn (namesIn F) n m))) r
   judged-text m r q =
-      answers-more (modelChecks (namesIn F) n m) _ (Verdict (TextSays n p F (stackIn (namesIn F) m) (heapIn (namesIn F) n m))) r
-      (λ k u. verdict-iff _ _ r (meaning-says (stackIn (namesIn F) m) (heapIn (namesIn F) n m) (model-stack (namesIn F) n m k) (model-heap (namesIn F) n m k)) u) (judged-meaning m r q)
+      answers-more (modelChecks (namesIn F) n m) _ (Verdict (TextFits n p F (stackIn (namesIn F) m) (heapIn (namesIn F) n m))) r
+      (λ k u. verdict-iff _ _ r (meaning-fits (stackIn (namesIn F) m) (heapIn (namesIn F) n m) (model-stack (namesIn F) n m k) (model-heap (namesIn F) n m k)) u) (judged-meaning m r q)
 
   -- ---- the search
 
@@ -96,12 +99,12 @@ module _ (s : List ℕ) (n p : ℕ) (F : Phrase) (b : List ℕ) (i : Imported s 
 
   -- in the text's own words
   pub searched-text : (c : ℕ) (o : List ℕ) (r : Answer) (o′ : List ℕ) → namesIn F + n ≤ length o → Searches b c o r o′
-      → Outcome (λ k. TextSays n p F (stackOf (namesIn F) n k) (heapOf n k)) (total (namesIn F) n) c r
+      → Outcome (λ k. TextFits n p F (stackOf (namesIn F) n k) (heapOf n k)) (total (namesIn F) n) c r
   searched-text c o r o′ l q =
-      outcome-iff (CandidateFits (namesIn F) n p (meaning F)) (λ k. TextSays n p F (stackOf (namesIn F) n k) (heapOf n k)) (total (namesIn F) n) c r
-      (λ k. meaning-says (stackOf (namesIn F) n k) (heapOf n k) (stackOf-stack (namesIn F) n k) (heapOf-heap n k)) (searched-meaning c o r o′ l q)
+      outcome-iff (CandidateFits (namesIn F) n p (meaning F)) (λ k. TextFits n p F (stackOf (namesIn F) n k) (heapOf n k)) (total (namesIn F) n) c r
+      (λ k. meaning-fits (stackOf (namesIn F) n k) (heapOf n k) (stackOf-stack (namesIn F) n k) (heapOf-heap n k)) (searched-meaning c o r o′ l q)
 
--- ---- more locations
+-- ---- more locations and longer paths
 
 no-wand : (ν : Term → ℕ) (F : Phrase) → NoWand F → NoSeptraction (formOf ν F)
 unfolding NoWand NoSeptraction formOf
@@ -130,10 +133,15 @@ none-under (neg a) q = q
 none-under (sep a b) q = (none-under a (q .0), none-under b (q .1))
 none-under (sept a b) q = absurd q
 
--- a text without `wand` that is found at n is never none at a larger n
-pub text-never-none : (s : List ℕ) (n n′ p : ℕ) (F : Phrase) (b b′ : List ℕ) → n ≤ n′ → Imported s n p F b → Imported s n′ p F b′ → NoWand F
-    → (c c′ : ℕ) (o o′ x x′ : List ℕ) (a a′ : Answer) → Searches b c o a x → a .number ≡ yes-number → Searches b′ c′ o′ a′ x′ → ¬ (a′ .number ≡ no-number)
-text-never-none s n n′ p F b b′ l i j w c c′ o o′ x x′ a a′ q e r =
+-- a text without `wand` that is found at n and p is never none at a larger n, a larger p, or both
+pub text-never-none : (s : List ℕ) (n n′ p p′ : ℕ) (F : Phrase) (b b′ : List ℕ) → n ≤ n′ → p ≤ p′ → Imported s n p F b → Imported s n′ p′ F b′ → NoWand F → NeverNone b b′
+text-never-none s n n′ p p′ F b b′ l m i j w =
     found-never-none b b′
-    (record { vars = i .vars ∙ sym (j .vars); path = i .path ∙ sym (j .path); formula = i .table ∙ sym (j .table); locs = omega (arith, l, i .locs, j .locs) })
-    (subst NoneUnderNegation (sym (i .formula)) (none-under (meaning F) (no-wand (numberOf (namesOf F)) F w))) c c′ o o′ x x′ a a′ q e r
+    (record { vars = i .vars ∙ sym (j .vars); path = omega (arith, m, i .path, j .path); formula = i .table ∙ sym (j .table); locs = omega (arith, l, i .locs, j .locs) })
+    (subst NoneUnderNegation (sym (i .formula)) (none-under (meaning F) (no-wand (numberOf (namesOf F)) F w)))
+
+-- and every text that is found at p is never none at a larger p
+pub text-never-none-longer : (s : List ℕ) (n p p′ : ℕ) (F : Phrase) (b b′ : List ℕ) → p ≤ p′ → Imported s n p F b → Imported s n p′ F b′ → NeverNone b b′
+text-never-none-longer s n p p′ F b b′ m i j =
+    found-never-none-longer b b′
+    (record { vars = i .vars ∙ sym (j .vars); locs = i .locs ∙ sym (j .locs); formula = i .table ∙ sym (j .table); path = omega (arith, m, i .path, j .path) })

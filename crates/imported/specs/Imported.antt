@@ -4,6 +4,7 @@ use mathlib.Core.List.{List}
 use Prim.Native.Nat.{ℕ, _≤_}
 use lib.ListN.{length}
 use Rattle.logic.specs.Heap.{Map}
+use Rattle.logic.specs.Paths.{NoLongPath}
 use Rattle.logic.specs.Book.{varsOf, locsOf, pathOf, formulaOf, bookFormula, Accepted}
 use Rattle.grammar.specs.Phrase.{Phrase, emp, join, deny, relate}
 use Rattle.grammar.specs.Phrase.Join.{and-word, or-word, sep-word, wand-word}
@@ -17,9 +18,9 @@ use Rattle.logic.specs.Strays.{NamedByAtom}
 abbrev pub namesIn : Phrase → ℕ
 namesIn F = length (namesOf F)
 
--- the text F says so of a stack and a heap, its names numbered as they first appear
-abbrev pub TextSays : ℕ → ℕ → Phrase → Map → Map → Type 0
-TextSays n p F s h = Says (namesIn F) n p (numberOf (namesOf F)) s F h
+-- a stack and a heap fit the text F: it says so of them, its names numbered as they first appear, and no path is over p links
+abbrev pub TextFits : ℕ → ℕ → Phrase → Map → Map → Type 0
+TextFits n p F s h = Says (namesIn F) n (numberOf (namesOf F)) s F h × NoLongPath p h
 
 -- `wand` does not occur
 unfoldable pub NoWand : Phrase → Type 0

@@ -3,3 +3,4 @@ pub mod Atoms
 pub mod Joins
 pub mod Trial
 pub mod Adding
+pub mod Fitting

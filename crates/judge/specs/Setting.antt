@@ -51,7 +51,7 @@ pub record Joined (f b : List ℕ) (k : ℕ) : Type 0 where
 
 -- the truth of a formula, and of node k, in setting b
 abbrev pub truthOf : List ℕ → Form → Map → Bool
-truthOf b F h = truth (varsOf b) (locsOf b) (pathOf b) F (stackOf b) h
+truthOf b F h = truth (varsOf b) (locsOf b) F (stackOf b) h
 
 abbrev pub truthAt : List ℕ → List ℕ → ℕ → Map → Bool
 truthAt f b k h = truthOf b (tree f k) h

@@ -14,14 +14,17 @@ use cells::taken;
 use leaves::long;
 use leaves::wide;
 use logic::Table;
+use paths::is_short;
 ghost use mathlib.Core.Path.{_≡_};
 ghost use mathlib.Core.Bool.{true};
 ghost use Prim.Native.Nat.{suc, _-_, _≤_, _<_, _^_};
 ghost use Rattle.logic.specs.Heap.{Heap};
-ghost use Rattle.logic.specs.Table.{opOf};
+ghost use Rattle.logic.specs.Table.{opOf, tree};
 ghost use Rattle.logic.specs.Tests.{andb, within};
+ghost use Rattle.logic.specs.Reflect.{Is};
+ghost use Rattle.logic.specs.Model.{Fits};
 ghost use Rattle.cells.specs.Cells.{full, cells, Tabled, Source, SourceBelow};
-ghost use Rattle.judge.specs.Setting.{locsOf, unnamedOf, Ready, Joined, truthAt, firstAt, secondAt, servesAt, Chosen, Found, FoundAt, Filled};
+ghost use Rattle.judge.specs.Setting.{varsOf, locsOf, pathOf, stackOf, unnamedOf, Ready, Joined, truthAt, firstAt, secondAt, servesAt, Chosen, Found, FoundAt, Filled};
 
 // The mark that no part serves: one more than the greatest part.
 pub const NONE: u64 = 256;
@@ -38,7 +41,7 @@ fn atom(f: &Table, k: usize, b: &[u64; 5], w: u64) -> bool
         1 => { if x == y { is_empty(w) } else { false } }
         2 => { if x == y { false } else { is_empty(w) } }
         3 => is_points(x, y, w),
-        _ => is_list(b[2], x, y, w),
+        _ => is_list(b[1], x, y, w),
     }
 }
 
@@ -214,4 +217,16 @@ fn digit(
         return both(f, k, b, h, h | w);
     }
     fill(f, k, b, w, barred, next, h)
+}
+
+// Whether the heap w fits node k of the table f, as a model's heap does: the node holds, and no path is too long.
+pub fn fits(f: &Table, k: usize, b: &[u64; 5], w: u64) -> bool
+    requires { ⌜ Ready (now f) (now b) k × Heap (locsOf (now b)) (cells w) ⌝ }
+    ensures { λ r. ⌜ Is r (Fits (varsOf (now (b .entry))) (locsOf (now (b .entry))) (pathOf (now (b .entry))) (tree (now (f .entry)) k) (stackOf (now (b .entry))) (cells w)) ⌝ }
+{
+    if node_holds(f, k, b, w) {
+        is_short(b[1], b[2], w)
+    } else {
+        false
+    }
 }

@@ -3,5 +3,7 @@ pub mod Wider
 pub mod NothingFits
 pub mod StillFits
 pub mod LargerBudget
+pub mod NeverNone
+pub mod LongerPaths
 pub mod MoreLocations
 pub mod FoundFits

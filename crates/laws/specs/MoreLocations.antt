@@ -10,8 +10,6 @@ use lib.Dec.{ltb}
 use lib.ListN.{length, getD, replicate, List·getD-append, getD-replicate}
 use lib.Seq.{getD-append-add}
 use borrow.Author.Tests.{lt-ltb, le-ltb}
-use Rattle.logic.specs.declared.Answer.{Answer}
-use Rattle.logic.specs.Numbers.{yes-number, no-number}
 use Rattle.logic.specs.Checks.{Passes}
 use Rattle.logic.specs.Heap.{Map, Stack}
 use Rattle.logic.specs.Formula.{Form}
@@ -24,17 +22,18 @@ use Rattle.logic.specs.Book.{bookFormula, varsOf, locsOf, pathOf, root}
 use Rattle.logic.specs.Model.{stackIn, heapIn, digitOf, modelChecks, Fits, FitsBook}
 use Rattle.logic.specs.Candidates.{total, stackOf, numberOf}
 use Rattle.logic.specs.CandidateLaws.{stackOf-stack, number-lt, stack-of-number, heap-of-number}
-use Rattle.logic.specs.Search.{CandidateFits, FitsAt, totalOf, Outcome, found, none, spent, Searches}
-use Rattle.logic.specs.RefusalLaws.{searches-answered}
+use Rattle.logic.specs.Search.{CandidateFits, FitsAt, totalOf}
 use Rattle.laws.specs.Negations.{NoSeptraction, NoneUnderNegation}
 use Rattle.laws.specs.Wider.{Wider, widened}
+use Rattle.laws.specs.NeverNone.{NeverNone, never-none}
+use Rattle.laws.specs.LongerPaths.{fits-longer}
 
 pub stack-more : (v n n′ : ℕ) (s : Map) → n ≤ n′ → Stack v n s → Stack v n′ s
 stack-more v n n′ s l k = record { nil = k .nil; low = λ x. omega (arith, k .low x); past = k .past }
 
-module _ (v p : ℕ) where
+module _ (v : ℕ) where
   -- without septraction the truth is the same at all n and n′, both ways
-  pub same-truth : (F : Form) (n n′ : ℕ) (s h : Map) → NoSeptraction F → Fits v n p F s h → Fits v n′ p F s h
+  pub same-truth : (F : Form) (n n′ : ℕ) (s h : Map) → NoSeptraction F → Holds v n F s h → Holds v n′ F s h
   unfolding NoSeptraction Holds
   same-truth (same x y) n n′ s h c q = q
   same-truth (diff x y) n n′ s h c q = q
@@ -48,30 +47,34 @@ module _ (v p : ℕ) where
       (q .0, q .1, q .2, q .3, same-truth a n n′ s (q .0) (c .0) (q .4), same-truth b n n′ s (q .1) (c .1) (q .5))
   same-truth (sept a b) n n′ s h c q = absurd c
 
-  -- what fits at n fits at every n′ from n on, with the same stack and the same heap: an added heap still serves
-  pub fits-more : (F : Form) (n n′ : ℕ) (s h : Map) → n ≤ n′ → NoneUnderNegation F → Fits v n p F s h → Fits v n′ p F s h
+  -- what holds at n holds at every n′ from n on, with the same stack and the same heap: an added heap still serves
+  pub holds-more : (F : Form) (n n′ : ℕ) (s h : Map) → n ≤ n′ → NoneUnderNegation F → Holds v n F s h → Holds v n′ F s h
   unfolding NoneUnderNegation Holds
-  fits-more (same x y) n n′ s h l c q = q
-  fits-more (diff x y) n n′ s h l c q = q
-  fits-more (pts x y) n n′ s h l c q = q
-  fits-more (ls x y) n n′ s h l c q = q
-  fits-more (conj a b) n n′ s h l c q = (fits-more a n n′ s h l (c .0) (q .0), fits-more b n n′ s h l (c .1) (q .1))
-  fits-more (disj a b) n n′ s h l c q = ⊎-elim (λ y. inl (fits-more a n n′ s h l (c .0) y)) (λ y. inr (fits-more b n n′ s h l (c .1) y)) q
-  fits-more (but a b) n n′ s h l c q = (fits-more a n n′ s h l (c .0) (q .0), λ y. q .1 (same-truth b n′ n s h (c .1) y))
-  fits-more (neg a) n n′ s h l c q = λ y. q (same-truth a n′ n s h c y)
-  fits-more (sep a b) n n′ s h l c q =
-      (q .0, q .1, q .2, q .3, fits-more a n n′ s (q .0) l (c .0) (q .4), fits-more b n n′ s (q .1) l (c .1) (q .5))
-  fits-more (sept a b) n n′ s h l c q =
-      (q .0, q .1, heap-more n n′ (q .0) l (q .2), q .3, q .4, fits-more a n n′ s (q .0) l (c .0) (q .5), fits-more b n n′ s (q .1) l (c .1) (q .6))
+  holds-more (same x y) n n′ s h l c q = q
+  holds-more (diff x y) n n′ s h l c q = q
+  holds-more (pts x y) n n′ s h l c q = q
+  holds-more (ls x y) n n′ s h l c q = q
+  holds-more (conj a b) n n′ s h l c q = (holds-more a n n′ s h l (c .0) (q .0), holds-more b n n′ s h l (c .1) (q .1))
+  holds-more (disj a b) n n′ s h l c q = ⊎-elim (λ y. inl (holds-more a n n′ s h l (c .0) y)) (λ y. inr (holds-more b n n′ s h l (c .1) y)) q
+  holds-more (but a b) n n′ s h l c q = (holds-more a n n′ s h l (c .0) (q .0), λ y. q .1 (same-truth b n′ n s h (c .1) y))
+  holds-more (neg a) n n′ s h l c q = λ y. q (same-truth a n′ n s h c y)
+  holds-more (sep a b) n n′ s h l c q =
+      (q .0, q .1, q .2, q .3, holds-more a n n′ s (q .0) l (c .0) (q .4), holds-more b n n′ s (q .1) l (c .1) (q .5))
+  holds-more (sept a b) n n′ s h l c q =
+      (q .0, q .1, heap-more n n′ (q .0) l (q .2), q .3, q .4, holds-more a n n′ s (q .0) l (c .0) (q .5), holds-more b n n′ s (q .1) l (c .1) (q .6))
+
+  -- and what fits at n and p fits at every n′ from n on and every p′ from p on
+  pub fits-more : (F : Form) (n n′ p p′ : ℕ) (s h : Map) → n ≤ n′ → p ≤ p′ → NoneUnderNegation F → Fits v n p F s h → Fits v n′ p′ F s h
+  fits-more F n n′ p p′ s h l m c q = fits-longer v n′ p p′ F s h m (holds-more F n n′ s h l c (q .0), q .1)
 
 -- a candidate that fits at n is a candidate that fits at n′, of another number
-pub candidate-more : (v n n′ p : ℕ) (F : Form) (c : ℕ) → n ≤ n′ → NoneUnderNegation F → CandidateFits v n p F c → (i : ℕ) × (i < total v n′) × CandidateFits v n′ p F i
-candidate-more v n n′ p F c l w q =
+pub candidate-more : (v n n′ p p′ : ℕ) (F : Form) (c : ℕ) → n ≤ n′ → p ≤ p′ → NoneUnderNegation F → CandidateFits v n p F c → (i : ℕ) × (i < total v n′) × CandidateFits v n′ p′ F i
+candidate-more v n n′ p p′ F c l lp w q =
     let s = stackOf v n c in
     let h = heapOf n c in
     let ks = stack-more v n n′ s l (stackOf-stack v n c) in
     let kh = heap-more n n′ h l (heapOf-heap n c) in
-    (numberOf v n′ s h, number-lt v n′ s h ks kh, rw (stack-of-number v n′ s h ks kh, heap-of-number v n′ s h ks kh) (fits-more v p F n n′ s h l w q))
+    (numberOf v n′ s h, number-lt v n′ s h ks kh, rw (stack-of-number v n′ s h ks kh, heap-of-number v n′ s h ks kh) (fits-more v F n n′ p p′ s h l lp w q))
 
 -- the widened model has the same stack and the same heap
 module _ (v n n′ : ℕ) (m : List ℕ) (long : length m ≡ v + n) (l : n ≤ n′) where
@@ -113,42 +116,30 @@ module _ (v n n′ : ℕ) (m : List ℕ) (long : length m ≡ v + n) (l : n ≤ 
 -- ---- the same of books: found never becomes none
 
 module _ (s t : List ℕ) (w : Wider s t) (c : NoneUnderNegation (bookFormula s)) where
-  -- t is judged as s is, with its own n
-  pub judged-as : (S H : Map) → Fits (varsOf s) (locsOf t) (pathOf s) (bookFormula s) S H → Fits (varsOf t) (locsOf t) (pathOf t) (bookFormula t) S H
+  -- t is judged as s is, with its own n and p
+  pub judged-as : (S H : Map) → Fits (varsOf s) (locsOf t) (pathOf t) (bookFormula s) S H → Fits (varsOf t) (locsOf t) (pathOf t) (bookFormula t) S H
   judged-as S H q =
       subst (λ (f : List ℕ). Fits (varsOf t) (locsOf t) (pathOf t) (tree f (root f)) S H) (w .formula)
-      (subst (λ (p : ℕ). Fits (varsOf t) (locsOf t) p (bookFormula s) S H) (w .path)
-      (subst (λ (v : ℕ). Fits v (locsOf t) (pathOf s) (bookFormula s) S H) (w .vars) q))
+      (subst (λ (v : ℕ). Fits v (locsOf t) (pathOf t) (bookFormula s) S H) (w .vars) q)
 
   pub found-more : (k : ℕ) → FitsAt s k → (i : ℕ) × (i < totalOf t) × FitsAt t i
   found-more k q =
-      let r = candidate-more (varsOf s) (locsOf s) (locsOf t) (pathOf s) (bookFormula s) k (w .locs) c q in (
+      let r = candidate-more (varsOf s) (locsOf s) (locsOf t) (pathOf s) (pathOf t) (bookFormula s) k (w .locs) (w .path) c q in (
         r .0,
         subst (λ (v : ℕ). r .0 < total v (locsOf t)) (w .vars) (r .1),
         judged-as (stackOf (varsOf t) (locsOf t) (r .0)) (heapOf (locsOf t) (r .0))
-            (subst (λ (v : ℕ). Fits (varsOf s) (locsOf t) (pathOf s) (bookFormula s) (stackOf v (locsOf t) (r .0)) (heapOf (locsOf t) (r .0))) (w .vars) (r .2)),
+            (subst (λ (v : ℕ). Fits (varsOf s) (locsOf t) (pathOf t) (bookFormula s) (stackOf v (locsOf t) (r .0)) (heapOf (locsOf t) (r .0))) (w .vars) (r .2)),
       )
 
-  pub found-never-none : (b b′ : ℕ) (o o′ x x′ : List ℕ) (a a′ : Answer) → Searches s b o a x → a .number ≡ yes-number → Searches t b′ o′ a′ x′ → ¬ (a′ .number ≡ no-number)
-  found-never-none b b′ o o′ x x′ a a′ p e q f =
-      go (searches-answered s b o a x p (omega arith) .outcome) (searches-answered t b′ o′ a′ x′ q (omega arith) .outcome)
-    where
-      number : (y z : Answer) → y ≡ z → y .number ≡ z .number
-      number y z g = ap (λ (r : Answer). r .number) g
-
-      go : Outcome (FitsAt s) (totalOf s) b a → Outcome (FitsAt t) (totalOf t) b′ a′ → ⊥
-      go (none u g) v = let z = number _ _ g in omega arith
-      go (spent u y g) v = let z = number _ _ g in omega arith
-      go (found k u g) (found j v d) = let z = number _ _ d in omega arith
-      go (found k u g) (spent v y d) = let z = number _ _ d in omega arith
-      go (found k u g) (none v d) = let r = found-more k (u .0 .fits) in v .0 (r .0) (r .1) (r .2)
+  pub found-never-none : NeverNone s t
+  found-never-none = never-none s t (λ k _ q. found-more k q)
 
   -- and of a model's bytes
   pub model-more : (m : List ℕ) → Passes (modelChecks (varsOf s) (locsOf s) m) → FitsBook s m → FitsBook t (widened (locsOf s) (locsOf t) m)
   unfolding Passes
   model-more m ok q =
       judged-as (stackIn (varsOf t) (widened (locsOf s) (locsOf t) m)) (heapIn (varsOf t) (locsOf t) (widened (locsOf s) (locsOf t) m))
-      (subst (λ (v : ℕ). Fits (varsOf s) (locsOf t) (pathOf s) (bookFormula s) (stackIn v (widened (locsOf s) (locsOf t) m)) (heapIn v (locsOf t) (widened (locsOf s) (locsOf t) m))) (w .vars)
-      (subst₂ (Fits (varsOf s) (locsOf t) (pathOf s) (bookFormula s))
+      (subst (λ (v : ℕ). Fits (varsOf s) (locsOf t) (pathOf t) (bookFormula s) (stackIn v (widened (locsOf s) (locsOf t) m)) (heapIn v (locsOf t) (widened (locsOf s) (locsOf t) m))) (w .vars)
+      (subst₂ (Fits (varsOf s) (locsOf t) (pathOf t) (bookFormula s))
       (sym (widened-stack (varsOf s) (locsOf s) (locsOf t) m (ok .0) (w .locs))) (sym (widened-heap (varsOf s) (locsOf s) (locsOf t) m (ok .0) (w .locs)))
-      (fits-more (varsOf s) (pathOf s) (bookFormula s) (locsOf s) (locsOf t) (stackIn (varsOf s) m) (heapIn (varsOf s) (locsOf s) m) (w .locs) c q)))
+      (fits-more (varsOf s) (bookFormula s) (locsOf s) (locsOf t) (pathOf s) (pathOf t) (stackIn (varsOf s) m) (heapIn (varsOf s) (locsOf s) m) (w .locs) (w .path) c q)))

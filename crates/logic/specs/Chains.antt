@@ -11,26 +11,10 @@ use Rattle.logic.specs.Heap.{Map, Heap, Allocated, Value, Empty}
 use Rattle.logic.specs.Holds.{Chain, Segment}
 use Rattle.logic.specs.Tests.{andb, pickb, allocated, without, empty, chain}
 use Rattle.logic.specs.Reflect.{Is, is-iff, is-eq, is-and, same-of-not}
-use Rattle.logic.specs.Agree.{heap-sub, is-allocated, is-empty}
-
--- h without a, at a and elsewhere
-pub without-here : (a : ℕ) (h : Map) → without a h a ≡ 0
-unfolding without
-without-here a h = rw (eq-eqb a a refl)
-
-pub without-there : (a : ℕ) (h : Map) (ℓ : ℕ) → ¬ (ℓ ≡ a) → without a h ℓ ≡ h ℓ
-unfolding without
-without-there a h ℓ e = rw (ne-eqb ℓ a e)
-
-without-some : (a : ℕ) (h : Map) (ℓ : ℕ) → Allocated (without a h) ℓ → ¬ (ℓ ≡ a)
-without-some a h ℓ f e = f (ap (without a h) e ∙ without-here a h)
-
-pub without-heap : (n a : ℕ) (h : Map) → Heap n h → Heap n (without a h)
-without-heap n a h k = heap-sub n (without a h) h (λ ℓ. go ℓ (ℕ-discrete ℓ a)) k
-  where
-    go : (ℓ : ℕ) → Dec (ℓ ≡ a) → (without a h ℓ ≡ h ℓ) ⊎ (without a h ℓ ≡ 0)
-    go ℓ (yes e) = inr (ap (without a h) e ∙ without-here a h)
-    go ℓ (no e) = inl (without-there a h ℓ e)
+use Rattle.logic.specs.Agree.{is-allocated, is-empty}
+use Rattle.logic.specs.Without.{without-there, without-some, without-heap}
+use Rattle.logic.specs.Paths.{Path}
+use Rattle.logic.specs.PathLaws.{path-le}
 
 -- no link: an empty heap
 chain-none : (a b : ℕ) (h : Map) → a ≡ b → Empty h → Chain 0 a b h
@@ -139,13 +123,16 @@ is-chain n (suc p) a b h g = go (ℕ-discrete a b) (is-chain n p (pred (h a)) b 
         (λ q. (suc (q .1 .0), suc-le-suc (q .1 .1), chain-more (q .1 .0) a b h e (q .0) (q .1 .2)))
         (λ q. back (q .0) (q .1) (q .2) e))
 
--- "x and y the same and h empty" is the chain of no link
-pub is-segment : (n p a b : ℕ) (h : Map) → Heap n h → Is (chain n p a b h) (Segment p a b h)
-is-segment n p a b h g =
-    is-iff (is-chain n p a b h g)
-    (λ q. split (q .0) (q .1) (q .2))
-    (⊎-elim (λ q. (0, zero-le, chain-none a b h (q .0) (q .1))) (λ q. (q .0, q .2, q .3)))
+chain-path : (k a b : ℕ) (h : Map) → Chain k a b h → Path k h
+chain-path k a b h c = record { at = c .at; link = c .link; different = c .different }
+
+-- a chain has at most n links, so those of at most n are all; "x and y the same and h empty" is the chain of no link
+pub is-segment : (n a b : ℕ) (h : Map) → Heap n h → Is (chain n n a b h) (Segment a b h)
+is-segment n a b h g =
+    is-iff (is-chain n n a b h g)
+    (λ q. split (q .0) (q .2))
+    (⊎-elim (λ q. (0, zero-le, chain-none a b h (q .0) (q .1))) (λ q. (q .0, path-le n (q .0) h g (chain-path (q .0) a b h (q .2)), q .2)))
   where
-    split : (k : ℕ) → k ≤ p → Chain k a b h → Segment p a b h
-    split zero l c = inl (chain-empty a b h c)
-    split (suc k) l c = inr (suc k, omega arith, l, c)
+    split : (k : ℕ) → Chain k a b h → Segment a b h
+    split zero c = inl (chain-empty a b h c)
+    split (suc k) c = inr (suc k, omega arith, c)

@@ -7,7 +7,7 @@ use lib.Dec.{eqb, leb}
 use lib.ListN.{length, getD}
 use Rattle.logic.specs.Formula.{Form}
 use Rattle.logic.specs.Heap.{Map}
-use Rattle.logic.specs.Tests.{andb, orb, all, any}
+use Rattle.logic.specs.Tests.{andb, orb, all, any, short}
 use Rattle.logic.specs.Truth.{truth}
 use Rattle.logic.specs.Table.{opOf, operandOf, kindOf, uses}
 use Rattle.logic.specs.Book.{most, kind, offset, size, stretch, varsOf, locsOf, pathOf, formulaOf, nodes, root, bookFormula}
@@ -53,7 +53,7 @@ allNamed v f = all v (λ i. namedByAtom f (suc i))
 
 -- Fits, worked out
 abbrev pub fits : ℕ → ℕ → ℕ → Form → Map → Map → Bool
-fits v n p F s h = truth v n p F s h
+fits v n p F s h = let r = short n p h in andb (truth v n F s h) r
 
 unfoldable pub fitsBook : List ℕ → List ℕ → Bool
 fitsBook s m =

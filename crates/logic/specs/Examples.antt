@@ -1,11 +1,11 @@
--- Document 01's examples that are proved, P1 to P14, in one go over a table. Assumes nothing.
+-- Document 01's examples that are proved, P1 to P14, and some of paths, in one go over a table. Assumes nothing.
 use mathlib.Core.Path.{_≡_, refl}
 use mathlib.Core.Bool.{Bool, true}
 use mathlib.Core.List.{List, [], _∷_}
 use Prim.Native.Nat.{ℕ, _<_}
 use lib.ListN.{length, getD}
 use Rattle.logic.specs.Numbers.{yes-number, no-number, spent-number}
-use Rattle.logic.specs.Tests.{sameBytes, any, all, digit, inPart, heapOf, part, rest, union, without, named, empty, isValue, inLocs, within, apartAt, apart, points, chain, sepAt, septAt}
+use Rattle.logic.specs.Tests.{sameBytes, any, all, digit, inPart, heapOf, part, rest, union, without, named, empty, isValue, inLocs, within, apartAt, apart, points, chain, stepped, pathFrom, short, sepAt, septAt}
 use Rattle.logic.specs.Truth.{truth}
 use Rattle.logic.specs.Table.{kindOf, uses, tree, deep, formOf, atomOf, joinOf, joinFrom5}
 use Rattle.logic.specs.Model.{stackIn, heapIn}
@@ -20,7 +20,8 @@ use Rattle.logic.specs.SearchExamples.{Searched, SearchedRight, searched
 bookOf : ℕ → ℕ → ℕ → List ℕ → List ℕ
 bookOf v n p f = 2 ∷ 1 ∷ 11 ∷ 0 ∷ 3 ∷ 0 ∷ 2 ∷ 14 ∷ 0 ∷ length f ∷ 0 ∷ v ∷ n ∷ p ∷ f
 
--- E is nil = nil and N is ¬E. These are N * N; x ↦ nil * y ↦ nil; x ↦ x * (x ↦ nil −⊛ x ↦ nil); ls(x,nil); E ∧ ¬(N −⊛ N)
+-- E is nil = nil and N is ¬E. These are N * N; x ↦ nil * y ↦ nil; x ↦ x * (x ↦ nil −⊛ x ↦ nil); ls(x,nil) and its negation;
+-- x ↦ nil −⊛ x ↦ nil; x ↦ y * y ↦ x; E ∧ ¬(N −⊛ N)
 abbrev meet : List ℕ
 meet = 1 ∷ 0 ∷ 0 ∷ 8 ∷ 0 ∷ 0 ∷ 1 ∷ 0 ∷ 0 ∷ 8 ∷ 2 ∷ 0 ∷ 9 ∷ 1 ∷ 3 ∷ []
 
@@ -32,6 +33,15 @@ replaced = 3 ∷ 1 ∷ 1 ∷ 3 ∷ 1 ∷ 0 ∷ 3 ∷ 1 ∷ 0 ∷ 10 ∷ 1 ∷ 2 
 
 abbrev queue : List ℕ
 queue = 4 ∷ 1 ∷ 0 ∷ []
+
+abbrev no-queue : List ℕ
+no-queue = 4 ∷ 1 ∷ 0 ∷ 8 ∷ 0 ∷ 0 ∷ []
+
+abbrev added : List ℕ
+added = 3 ∷ 1 ∷ 0 ∷ 3 ∷ 1 ∷ 0 ∷ 10 ∷ 0 ∷ 1 ∷ []
+
+abbrev cycle : List ℕ
+cycle = 3 ∷ 1 ∷ 2 ∷ 3 ∷ 2 ∷ 1 ∷ 9 ∷ 0 ∷ 1 ∷ []
 
 abbrev no-room : List ℕ
 no-room = 1 ∷ 0 ∷ 0 ∷ 1 ∷ 0 ∷ 0 ∷ 8 ∷ 1 ∷ 0 ∷ 1 ∷ 0 ∷ 0 ∷ 8 ∷ 3 ∷ 0 ∷ 10 ∷ 2 ∷ 4 ∷ 8 ∷ 5 ∷ 0 ∷ 5 ∷ 0 ∷ 6 ∷ []
@@ -48,7 +58,9 @@ searching : List ℕ → ℕ → ℕ → ℕ → List ℕ → Row
 searching b k r t m = search (record { book = b; budget = k; number = r; tried = t; model = m })
 
 -- P1, P2: x ↦ x; P3: x ↦ nil; P4: ls(x,nil); P5: x ≠ nil; P6: nil ↦ x; P7, P8; P9; P10; P11 at p = 1 and p = 2; P12; P13 at
--- n = 0 and n = 1, and its truths there; P14 both ways
+-- n = 0 and n = 1, and its truths there; P14 both ways. Then paths: of two links, where p = 1; that of an added heap, which does
+-- not count; a cell that points to itself, which is none; and a cycle of two cells, which is one of one link, where p = 1 and
+-- where p = 0
 pub rows : List Row
 rows =
     searching (bookOf 1 1 1 (3 ∷ 1 ∷ 1 ∷ [])) 6 yes-number 6 (1 ∷ 1 ∷ [])
@@ -72,6 +84,11 @@ rows =
     ∷ judging (bookOf 0 1 0 no-room) (1 ∷ []) no-number
     ∷ judging (bookOf 2 2 2 (3 ∷ 1 ∷ 2 ∷ [])) (1 ∷ 2 ∷ 2 ∷ 255 ∷ []) yes-number
     ∷ judging (bookOf 2 2 2 (3 ∷ 2 ∷ 1 ∷ [])) (1 ∷ 2 ∷ 2 ∷ 255 ∷ []) no-number
+    ∷ judging (bookOf 1 2 1 no-queue) (1 ∷ 2 ∷ 0 ∷ []) no-number
+    ∷ judging (bookOf 1 1 0 added) (1 ∷ 255 ∷ []) yes-number
+    ∷ judging (bookOf 1 1 0 (3 ∷ 1 ∷ 1 ∷ [])) (1 ∷ 1 ∷ []) yes-number
+    ∷ judging (bookOf 2 2 1 cycle) (1 ∷ 2 ∷ 2 ∷ 1 ∷ []) yes-number
+    ∷ judging (bookOf 2 2 0 cycle) (1 ∷ 2 ∷ 2 ∷ 1 ∷ []) no-number
     ∷ []
 
 -- every result that the judge's or the search's statement allows is the row's
@@ -89,7 +106,7 @@ right i (judge w) e = judged-right w e
 right i (search w) e = searched-right w e
 
 all-right : every test 0 rows ≡ true
-unfolding rows judging searching bookOf test every judgedTest searchedTest worked-out written sameBytes fitsAt first outcomeOf digitsOf bytesTo accepted laidOut boundsOk formulaOk nodeOk operandOk tableOk allNamed namedByAtom modelOk fitsBook stackIn heapIn truth any all digit inPart heapOf part rest union without named empty isValue inLocs within apartAt apart points chain sepAt septAt kindOf uses tree deep formOf atomOf joinOf joinFrom5
+unfolding rows judging searching bookOf test every judgedTest searchedTest worked-out written sameBytes fitsAt first outcomeOf digitsOf bytesTo accepted laidOut boundsOk formulaOk nodeOk operandOk tableOk allNamed namedByAtom modelOk fitsBook stackIn heapIn truth any all digit inPart heapOf part rest union without named empty isValue inLocs within apartAt apart points chain stepped pathFrom short sepAt septAt kindOf uses tree deep formOf atomOf joinOf joinFrom5
 all-right = refl
 
 pub examples : (k : ℕ) (w : Row) → k < length rows → Right (getD rows k w)

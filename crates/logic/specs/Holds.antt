@@ -22,17 +22,17 @@ pub record Chain (k a b : ℕ) (h : Map) : Type 0 where
   pub different : (i j : ℕ) → i < j → j ≤ k → ¬ (at i ≡ at j)
   pub only : (ℓ : ℕ) → Allocated h ℓ → (i : ℕ) × (i < k) × (at i ≡ ℓ)
 
--- "x and y the same and h empty; or a chain of 1 to p links from x to y"
-abbrev pub Segment : ℕ → ℕ → ℕ → Map → Type 0
-Segment p a b h = ((a ≡ b) × Empty h) ⊎ ((k : ℕ) × (1 ≤ k) × (k ≤ p) × Chain k a b h)
+-- "x and y the same and h empty; or a chain of" links from x to y: "A list segment may now have any number of links"
+abbrev pub Segment : ℕ → ℕ → Map → Type 0
+Segment a b h = ((a ≡ b) × Empty h) ⊎ ((k : ℕ) × (1 ≤ k) × Chain k a b h)
 
--- n bounds the added heaps and p the chains; s is the stack and h "the heap at the node"
-module _ (v n p : ℕ) where
+-- n bounds the added heaps; s is the stack and h "the heap at the node"
+module _ (v n : ℕ) where
   unfoldable pub Holds : Form → Map → Map → Type 0
   Holds (same x y) s h = (s x ≡ s y) × Empty h
   Holds (diff x y) s h = (¬ (s x ≡ s y)) × Empty h
   Holds (pts x y) s h = Points (s x) (s y) h
-  Holds (ls x y) s h = Segment p (s x) (s y) h
+  Holds (ls x y) s h = Segment (s x) (s y) h
   Holds (conj a b) s h = Holds a s h × Holds b s h
   Holds (disj a b) s h = Holds a s h ⊎ Holds b s h
   Holds (but a b) s h = Holds a s h × (¬ Holds b s h)

@@ -1,5 +1,6 @@
 pub mod Heap
 pub mod Formula
+pub mod Paths
 pub mod Holds
 pub mod Numbers
 pub mod Checks
@@ -9,6 +10,8 @@ pub mod Truth
 pub mod Reflect
 pub mod Digits
 pub mod Agree
+pub mod Without
+pub mod PathLaws
 pub mod Chains
 pub mod TruthHolds
 pub mod Book

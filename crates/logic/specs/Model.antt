@@ -11,6 +11,7 @@ use Rattle.logic.specs.Numbers.{answer, yes-number, no-number, model-len
 use Rattle.logic.specs.Checks.{Checks, done, check, _then_, upto, Answers}
 use Rattle.logic.specs.Heap.{Map}
 use Rattle.logic.specs.Formula.{Form}
+use Rattle.logic.specs.Paths.{NoLongPath}
 use Rattle.logic.specs.Holds.{Holds}
 use Rattle.logic.specs.Tests.{pick}
 use Rattle.logic.specs.Book.{bookChecks, varsOf, locsOf, pathOf, bookFormula}
@@ -43,9 +44,10 @@ byteChecks v n m i = check (ByteOk v n m i) model-value i done
 abbrev pub modelChecks : ℕ → ℕ → List ℕ → Checks
 modelChecks v n m = check (length m ≡ v + n) model-length 0 (upto (byteChecks v n m) (v + n))
 
--- a model fits a formula: its root holds. A model's fit has a name of its own, apart from a node's truth
+-- a model fits a formula: its root holds, and "p bounds the model": "one with a simple path (all locations different) of more
+-- than p links along its own cells doesn't fit"
 abbrev pub Fits : ℕ → ℕ → ℕ → Form → Map → Map → Type 0
-Fits v n p F s h = Holds v n p F s h
+Fits v n p F s h = Holds v n F s h × NoLongPath p h
 
 -- the model m fits the book s
 abbrev pub FitsBook : List ℕ → List ℕ → Type 0

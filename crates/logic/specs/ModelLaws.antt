@@ -12,13 +12,15 @@ use borrow.Author.Tests.{le-ltb, eq-eqb}
 use Rattle.logic.specs.declared.Answer.{Answer}
 use Rattle.logic.specs.Checks.{Passes}
 use Rattle.logic.specs.CheckLaws.{Single, Refuses, passes-at, answers-single, refuses-upto}
-use Rattle.logic.specs.Heap.{Stack, Heap}
-use Rattle.logic.specs.Tests.{pick}
-use Rattle.logic.specs.Reflect.{Is}
-use Rattle.logic.specs.Table.{tree}
-use Rattle.logic.specs.Book.{varsOf, locsOf, pathOf, formulaOf, root}
-use Rattle.logic.specs.Model.{stackIn, heapIn, digitOf, ByteOk, byteChecks, modelChecks, judgeChecks, FitsBook, Verdict, Judges}
-use Rattle.logic.specs.Computed.{fitsBook}
+use Rattle.logic.specs.Heap.{Map, Stack, Heap}
+use Rattle.logic.specs.Tests.{pick, short}
+use Rattle.logic.specs.Reflect.{Is, is-and}
+use Rattle.logic.specs.Formula.{Form}
+use Rattle.logic.specs.Truth.{truth}
+use Rattle.logic.specs.PathLaws.{is-short}
+use Rattle.logic.specs.Book.{varsOf, locsOf, pathOf, bookFormula}
+use Rattle.logic.specs.Model.{stackIn, heapIn, digitOf, ByteOk, byteChecks, modelChecks, judgeChecks, Fits, FitsBook, Verdict, Judges}
+use Rattle.logic.specs.Computed.{fits, fitsBook}
 use Rattle.logic.specs.TruthHolds.{truth-holds}
 
 pick-le : (b : Bool) (x k : ℕ) → x ≤ k → pick b x 0 ≤ k
@@ -75,12 +77,16 @@ module _ (v n : ℕ) (m : List ℕ) (ok : Passes (modelChecks v n m)) where
       low′ zero = zero-le
       low′ (suc i) = at i (decLt i n)
 
--- whether a model in range fits is worked out
+-- whether a stack and a heap in range fit is worked out
+pub fits-is : (v n p : ℕ) (F : Form) (s h : Map) → ((x : ℕ) → s x ≤ n) → Heap n h → Is (fits v n p F s h) (Fits v n p F s h)
+fits-is v n p F s h low k = is-and (truth v n F s h) (short n p h) (truth-holds v n s low F h k) (is-short n p h k)
+
+-- and so is whether a model in range fits
 pub is-fits : (s m : List ℕ) → Passes (modelChecks (varsOf s) (locsOf s) m) → Is (fitsBook s m) (FitsBook s m)
 unfolding fitsBook
 is-fits s m ok =
-    truth-holds (varsOf s) (locsOf s) (pathOf s) (stackIn (varsOf s) m) (model-stack (varsOf s) (locsOf s) m ok .low)
-    (tree (formulaOf s) (root (formulaOf s))) (heapIn (varsOf s) (locsOf s) m) (model-heap (varsOf s) (locsOf s) m ok)
+    fits-is (varsOf s) (locsOf s) (pathOf s) (bookFormula s) (stackIn (varsOf s) m) (heapIn (varsOf s) (locsOf s) m)
+    (model-stack (varsOf s) (locsOf s) m ok .low) (model-heap (varsOf s) (locsOf s) m ok)
 
 pub verdict-single : (P : Type 0) → Single (Verdict P)
 verdict-single P a b p q =

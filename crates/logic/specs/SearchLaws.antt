@@ -18,7 +18,7 @@ use Rattle.logic.specs.CheckLaws.{Single, Yes, answers-single, answers-r
 use Rattle.logic.specs.Tests.{pick, heapOf}
 use Rattle.logic.specs.Reflect.{Is, fails}
 use Rattle.logic.specs.Agree.{heapOf-heap}
-use Rattle.logic.specs.TruthHolds.{truth-holds}
+use Rattle.logic.specs.ModelLaws.{fits-is}
 use Rattle.logic.specs.Book.{formulaOf, bookFormula, bookChecks, varsOf, locsOf, pathOf, Reads, Accepted}
 use Rattle.logic.specs.Candidates.{stackOf, modelOf}
 use Rattle.logic.specs.CandidateLaws.{stackOf-stack}
@@ -123,8 +123,8 @@ module _ (s : List ℕ) (b : ℕ) (o : List ℕ) where
 pub is-fits-at : (s : List ℕ) (c : ℕ) → Is (fitsAt s c) (FitsAt s c)
 unfolding fitsAt
 is-fits-at s c =
-    truth-holds _ (locsOf s) (pathOf s) (stackOf (varsOf s) (locsOf s) c) (stackOf-stack (varsOf s) (locsOf s) c .low) (bookFormula s)
-    (heapOf (locsOf s) c) (heapOf-heap (locsOf s) c)
+    fits-is (varsOf s) (locsOf s) (pathOf s) (bookFormula s) (stackOf (varsOf s) (locsOf s) c) (heapOf (locsOf s) c)
+    (stackOf-stack (varsOf s) (locsOf s) c .low) (heapOf-heap (locsOf s) c)
 
 -- k is the lowest number below t at which the test passes, or t
 record First (f : ℕ → Bool) (t k : ℕ) : Type 0 where

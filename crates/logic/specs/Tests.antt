@@ -116,6 +116,21 @@ chain n (suc k) a b h =
     let e = empty n h in
     pickb (eqb a b) e q
 
+-- the location after i links from a
+unfoldable pub stepped : Map → ℕ → ℕ → ℕ
+stepped h a zero = a
+stepped h a (suc i) = pred (h (stepped h a i))
+
+-- k links from a, all locations on the way different
+unfoldable pub pathFrom : Map → ℕ → ℕ → Bool
+pathFrom h k a =
+    let r = all (suc k) (λ j. all j (λ i. not (eqb (stepped h a i) (stepped h a j)))) in
+    andb (all k (λ i. allocated h (stepped h a i))) r
+
+-- no simple path of more than p links: none of p + 1
+unfoldable pub short : ℕ → ℕ → Map → Bool
+short n p h = not (any (suc n) (pathFrom h (suc p)))
+
 -- part m of h, which passes A, and the rest, which passes B, are strongly disjoint
 unfoldable pub sepAt : ℕ → ℕ → Map → Map → (Map → Bool) → (Map → Bool) → ℕ → Bool
 sepAt v n s h A B m =

@@ -8,12 +8,12 @@ use Rattle.logic.specs.Tests.{andb, orb, any, empty, points, chain, sepA
 use Rattle.logic.specs.Formula.{Form}
 use Rattle.logic.specs.Formula.Form.{same, diff, pts, ls, conj, disj, but, neg, sep, sept}
 
-module _ (v n p : ℕ) where
+module _ (v n : ℕ) where
   unfoldable pub truth : Form → Map → Map → Bool
   truth (same x y) s h = andb (eqb (s x) (s y)) (empty n h)
   truth (diff x y) s h = andb (not (eqb (s x) (s y))) (empty n h)
   truth (pts x y) s h = points n (s x) (s y) h
-  truth (ls x y) s h = chain n p (s x) (s y) h
+  truth (ls x y) s h = chain n n (s x) (s y) h
   truth (conj a b) s h = let r = truth b s h in andb (truth a s h) r
   truth (disj a b) s h = let r = truth b s h in orb (truth a s h) r
   truth (but a b) s h = let r = not (truth b s h) in andb (truth a s h) r

@@ -13,18 +13,18 @@ use Rattle.logic.specs.Reflect.{Is, is-eq, is-and, is-or, is-not}
 use Rattle.logic.specs.Agree.{is-empty, is-points, is-sep, is-sept}
 use Rattle.logic.specs.Chains.{is-segment}
 
-module _ (v n p : ℕ) (s : Map) (low : (x : ℕ) → s x ≤ n) where
-  pub truth-holds : (F : Form) (h : Map) → Heap n h → Is (truth v n p F s h) (Holds v n p F s h)
+module _ (v n : ℕ) (s : Map) (low : (x : ℕ) → s x ≤ n) where
+  pub truth-holds : (F : Form) (h : Map) → Heap n h → Is (truth v n F s h) (Holds v n F s h)
   unfolding truth Holds
   truth-holds (same x y) h k = is-and (eqb (s x) (s y)) (empty n h) (is-eq (s x) (s y)) (is-empty n h k)
   truth-holds (diff x y) h k = is-and (not (eqb (s x) (s y))) (empty n h) (is-not (eqb (s x) (s y)) (is-eq (s x) (s y))) (is-empty n h k)
   truth-holds (pts x y) h k = is-points n (s x) (s y) h (low x) k
-  truth-holds (ls x y) h k = is-segment n p (s x) (s y) h k
-  truth-holds (conj a b) h k = is-and (truth v n p a s h) (truth v n p b s h) (truth-holds a h k) (truth-holds b h k)
-  truth-holds (disj a b) h k = is-or (truth v n p a s h) (truth v n p b s h) (truth-holds a h k) (truth-holds b h k)
-  truth-holds (but a b) h k = is-and (truth v n p a s h) (not (truth v n p b s h)) (truth-holds a h k) (is-not (truth v n p b s h) (truth-holds b h k))
-  truth-holds (neg a) h k = is-not (truth v n p a s h) (truth-holds a h k)
+  truth-holds (ls x y) h k = is-segment n (s x) (s y) h k
+  truth-holds (conj a b) h k = is-and (truth v n a s h) (truth v n b s h) (truth-holds a h k) (truth-holds b h k)
+  truth-holds (disj a b) h k = is-or (truth v n a s h) (truth v n b s h) (truth-holds a h k) (truth-holds b h k)
+  truth-holds (but a b) h k = is-and (truth v n a s h) (not (truth v n b s h)) (truth-holds a h k) (is-not (truth v n b s h) (truth-holds b h k))
+  truth-holds (neg a) h k = is-not (truth v n a s h) (truth-holds a h k)
   truth-holds (sep a b) h k =
-      is-sep v n s (truth v n p a s) (truth v n p b s) (Holds v n p a s) (Holds v n p b s) (truth-holds a) (truth-holds b) h k
+      is-sep v n s (truth v n a s) (truth v n b s) (Holds v n a s) (Holds v n b s) (truth-holds a) (truth-holds b) h k
   truth-holds (sept a b) h k =
-      is-sept v n s (truth v n p a s) (truth v n p b s) (Holds v n p a s) (Holds v n p b s) (truth-holds a) (truth-holds b) h k
+      is-sept v n s (truth v n a s) (truth v n b s) (Holds v n a s) (Holds v n b s) (truth-holds a) (truth-holds b) h k

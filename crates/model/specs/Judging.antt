@@ -1,5 +1,5 @@
 -- From the judge's core to the judge's statement. Assumes nothing.
-use mathlib.Core.Path.{_≡_, sym, _∙_, ap, subst}
+use mathlib.Core.Path.{_≡_, sym, subst}
 use mathlib.Core.Bool.{Bool, true, false}
 use mathlib.Core.List.{List, [], _∷_}
 use Prim.Native.Nat.{ℕ, suc, _-_, _/_, _<_}
@@ -10,8 +10,6 @@ use Rattle.logic.specs.Checks.{Checks, _then_, Passes, Answers}
 use Rattle.logic.specs.CheckLaws.{Yes, passes-of-yes, passes-then, answers-refused, answers-after, answers-other, answers-passed}
 use Rattle.logic.specs.Heap.{Stack, Heap}
 use Rattle.logic.specs.Reflect.{Is}
-use Rattle.logic.specs.Truth.{truth}
-use Rattle.logic.specs.TruthHolds.{truth-holds}
 use Rattle.logic.specs.Formula.{Form}
 use Rattle.logic.specs.Table.{Sound, tree}
 use Rattle.logic.specs.Book.{nodes, root, bookChecks, varsOf, locsOf, Reads, Accepted, Bodies}
@@ -38,11 +36,8 @@ module _ (v n p : ℕ) (f t : List ℕ) (same : (i : ℕ) → getD t i 0 ≡ get
         unnamed = un;
       }
 
-  pub core-fits : (r : Bool) → r ≡ truth v n p (tree t (root f)) (cells s) (cells w) → Is r (Fits v n p (tree f (root f)) (cells s) (cells w))
-  core-fits r e =
-      let q : r ≡ truth v n p (tree f (root f)) (cells s) (cells w) = e ∙ ap (λ (F : Form). truth v n p F (cells s) (cells w)) (same-tree f t same (root f)) in
-      subst (λ (b : Bool). Is b (Fits v n p (tree f (root f)) (cells s) (cells w))) (sym q)
-      (truth-holds v n p (cells s) (j .stack .low) (tree f (root f)) (cells w) (j .heap))
+  pub core-fits : (r : Bool) → Is r (Fits v n p (tree t (root f)) (cells s) (cells w)) → Is r (Fits v n p (tree f (root f)) (cells s) (cells w))
+  core-fits r = subst (λ (F : Form). Is r (Fits v n p F (cells s) (cells w))) (same-tree f t same (root f))
 
 -- ---- the judge's answer, from the answers of its steps
 

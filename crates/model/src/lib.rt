@@ -2,7 +2,6 @@
 use book::open;
 use cells::unnamed;
 use contents::part;
-use judge::node_holds;
 use leaves::answer_of;
 use logic::Answer;
 use packing::table_of;
@@ -22,7 +21,7 @@ fn fits(f: &[u8], v: u64, n: u64, p: u64, stack: u64, heap: u64) -> bool
     let table = table_of(f);
     let last = f.len() / 3 - 1;
     let setting = [v, n, p, stack, unnamed(v, n, stack)];
-    node_holds(&table, last, &setting, heap)
+    judge::fits(&table, last, &setting, heap)
 }
 
 // Whether the model fits the book's formula: 0 or 1, or the first refusal of the book (10 to 16) or the model (17, 18).

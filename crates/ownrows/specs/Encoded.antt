@@ -8,11 +8,11 @@ use Rattle.rows.specs.Table.{arraysIn, setsIn, rowsIn, rowsOf}
 use Rattle.rowbytes.specs.Written.{Puts, Space}
 
 -- room for the rows of a formula
-pub record Room (p : ℕ) (F : Form) (s : Next) (o : List ℕ) : Type 0 where
-  pub space : Space s (rowsIn p F) o
+pub record Room (n : ℕ) (F : Form) (s : Next) (o : List ℕ) : Type 0 where
+  pub space : Space s (rowsIn n F) o
   pub array : s .array + arraysIn F < 65536
   pub set : s .set + setsIn F < 65536
 
 -- the rows of F over array A and set S were added
 abbrev pub Encoded : ℕ → Form → ℕ → ℕ → Next → Next → List ℕ → List ℕ → Type 0
-Encoded p F A S s t o now = Puts s (rowsIn p F) (arraysIn F) (setsIn F) (bytesOf (rowsOf p F A S s)) t o now
+Encoded n F A S s t o now = Puts s (rowsIn n F) (arraysIn F) (setsIn F) (bytesOf (rowsOf n F A S s)) t o now

@@ -1,7 +1,7 @@
 -- An operator's own rows, from the rows that are written one by one. Assumes nothing.
 use mathlib.Core.Path.{_≡_, refl, ap, ap₂, _∙_}
 use mathlib.Core.List.{List, [], _∷_, _++_}
-use Prim.Native.Nat.{ℕ, suc, _+_, _-_, _*_, _≤_}
+use Prim.Native.Nat.{ℕ, suc, _+_, _-_, _*_, _≤_, _<_}
 use native.Mathlib.Omega.{arith}
 use native.Mathlib.Numerals.{add-one}
 use lib.ListN.{length}
@@ -10,8 +10,8 @@ use Rattle.logic.specs.Table.{atomOf}
 use Rattle.rows.specs.declared.Fields.{Fields}
 use Rattle.rows.specs.declared.Next.{Next}
 use Rattle.rows.specs.Row.{Row, plain, fieldsOf, tenBytes, bytesOf}
-use Rattle.rows.specs.Row.Row.{EQ, NE, EMPTY, ONE, AT, CHAIN, AND, OR, SPLIT, APART, SAME}
-use Rattle.rows.specs.Table.{arraysIn, setsIn, chains, ors, soFar, sepRows, septRows, rowsIn, rowsOf}
+use Rattle.rows.specs.Row.Row.{EQ, NE, EMPTY, ONE, AT, CHAIN, AND, OR, SPLIT, APART, SAME, LONG}
+use Rattle.rows.specs.Table.{arraysIn, setsIn, chains, ors, soFar, also, sepRows, septRows, rowsIn, rowsOf}
 use Rattle.rows.specs.TableLaws.{chains-long, ors-long}
 use Rattle.rows.specs.Bounds.{ownRows}
 use Rattle.rows.specs.BoundsLaws.{rows-add}
@@ -26,13 +26,18 @@ unfolding bytesOf
 pair-rows X Y r d e p = puts-as refl refl refl (ap₂ (λ (a b : Fields). tenBytes a ++ tenBytes b ++ bytesOf (AND r (r + 1) ∷ [])) d e) p
 
 -- a row and the AND of row r, the one before it, with it
-pub also-rows : (X : Row) (r q : ℕ) {x : Fields} {s w : Next} {o now : List ℕ} → x ≡ fieldsOf X → s .row ≡ q → q ≡ r + 1
-    → Puts s 2 0 0 (tenBytes x ++ bytesOf (AND (s .row - 1) (s .row) ∷ [])) w o now → Puts s 2 0 0 (bytesOf (X ∷ AND r q ∷ [])) w o now
+pub also-rows : (X : Row) (r : ℕ) {x : Fields} {s w : Next} {o now : List ℕ} → x ≡ fieldsOf X → s .row ≡ r + 1
+    → Puts s 2 0 0 (tenBytes x ++ bytesOf (AND (s .row - 1) (s .row) ∷ [])) w o now → Puts s 2 0 0 (bytesOf (also r X)) w o now
 unfolding bytesOf
-also-rows X r q {x} {s} d e f p =
+also-rows X r {x} {s} d e q =
     let a : s .row - 1 ≡ r = omega arith in
     puts-as refl refl refl
-    (ap₂ (λ (y : Fields) (k : ℕ). tenBytes y ++ bytesOf (AND k (s .row) ∷ [])) d a ∙ ap (λ (k : ℕ). tenBytes (fieldsOf X) ++ bytesOf (AND r k ∷ [])) e) p
+    (ap₂ (λ (y : Fields) (k : ℕ). tenBytes y ++ bytesOf (AND k (s .row) ∷ [])) d a ∙ ap (λ (k : ℕ). tenBytes (fieldsOf X) ++ bytesOf (AND r k ∷ [])) e) q
+
+-- the last two rows: LONG, and the AND of the formula's row with it
+pub long-rows : (p : ℕ) {x : Fields} {s w : Next} {o now : List ℕ} → 0 < s .row → x ≡ fieldsOf (LONG 0 0 p)
+    → Puts s 2 0 0 (tenBytes x ++ bytesOf (AND (s .row - 1) (s .row) ∷ [])) w o now → Puts s 2 0 0 (bytesOf (also (s .row - 1) (LONG 0 0 p))) w o now
+long-rows p {x} {s} l d q = also-rows (LONG 0 0 p) (s .row - 1) d (omega arith) q
 
 -- ---- a list's chains and ORs
 
@@ -80,9 +85,9 @@ module _ (S i l : ℕ) {s t u w : Next} {x y : Fields} {o o₁ o₂ o₃ : List 
       let m = s .row in
       let n = row-after p in
       let k = row-after q in
-      rows-rows (AND (l - 1) (m - 1) ∷ SPLIT S i (i + 1) ∷ AND m (m + 1) ∷ []) (APART A i (i + 1) ∷ AND (m + 2) (m + 3) ∷ []) refl (omega (arith, h .out))
-      (rows-rows (AND (l - 1) (m - 1) ∷ []) (SPLIT S i (i + 1) ∷ AND m (m + 1) ∷ []) refl (omega (arith, h .out)) p (also-rows (SPLIT S i (i + 1)) m (m + 1) d n refl q))
-      (also-rows (APART A i (i + 1)) (m + 2) (m + 3) e (omega arith) (omega arith) r)
+      rows-rows (AND (l - 1) (m - 1) ∷ also m (SPLIT S i (i + 1))) (also (m + 2) (APART A i (i + 1))) refl (omega (arith, h .out))
+      (rows-rows (AND (l - 1) (m - 1) ∷ []) (also m (SPLIT S i (i + 1))) refl (omega (arith, h .out)) p (also-rows (SPLIT S i (i + 1)) m d n q))
+      (also-rows (APART A i (i + 1)) (m + 2) e (omega arith) r)
 
 module _ (A B S i l : ℕ) {s t u w k : Next} {x y z : Fields} {o o₁ o₂ o₃ o₄ : List ℕ} where
   pub sept-rows : Space s 7 o → Puts s 1 0 0 (bytesOf (AND (l - 1) (s .row - 1) ∷ [])) t o o₁
@@ -96,42 +101,44 @@ module _ (A B S i l : ℕ) {s t u w k : Next} {x y z : Fields} {o o₁ o₂ o₃
       let n₁ = row-after p in
       let n₂ = row-after q in
       let n₃ = row-after r in
-      rows-rows (AND (l - 1) (m - 1) ∷ SPLIT (i + 1) i S ∷ AND m (m + 1) ∷ APART B i S ∷ AND (m + 2) (m + 3) ∷ []) (SAME A B S ∷ AND (m + 4) (m + 5) ∷ []) refl (omega (arith, h .out))
-      (rows-rows (AND (l - 1) (m - 1) ∷ SPLIT (i + 1) i S ∷ AND m (m + 1) ∷ []) (APART B i S ∷ AND (m + 2) (m + 3) ∷ []) refl (omega (arith, h .out))
-      (rows-rows (AND (l - 1) (m - 1) ∷ []) (SPLIT (i + 1) i S ∷ AND m (m + 1) ∷ []) refl (omega (arith, h .out)) p (also-rows (SPLIT (i + 1) i S) m (m + 1) d n₁ refl q))
-      (also-rows (APART B i S) (m + 2) (m + 3) e (omega arith) (omega arith) r))
-      (also-rows (SAME A B S) (m + 4) (m + 5) f (omega arith) (omega arith) v)
+      let split = also m (SPLIT (i + 1) i S) in
+      let apart = also (m + 2) (APART B i S) in
+      rows-rows ((AND (l - 1) (m - 1) ∷ split) ++ apart) (also (m + 4) (SAME A B S)) refl (omega (arith, h .out))
+      (rows-rows (AND (l - 1) (m - 1) ∷ split) apart refl (omega (arith, h .out))
+      (rows-rows (AND (l - 1) (m - 1) ∷ []) split refl (omega (arith, h .out)) p (also-rows (SPLIT (i + 1) i S) m d n₁ q))
+      (also-rows (APART B i S) (m + 2) e (omega arith) r))
+      (also-rows (SAME A B S) (m + 4) f (omega arith) v)
 
 -- ---- atoms
 
-module _ (p op x y A S : ℕ) (s : Next) (o : List ℕ) where
-  -- operators 1 to 3 have three rows, operator 4 has p + 1 and p
-  pub space-pair : 1 ≤ op → op ≤ 3 → Room p (atomOf op x y) s o → Space s 3 o
+module _ (n op x y A S : ℕ) (s : Next) (o : List ℕ) where
+  -- operators 1 to 3 have three rows, operator 4 has n + 1 and n
+  pub space-pair : 1 ≤ op → op ≤ 3 → Room n (atomOf op x y) s o → Space s 3 o
   unfolding ownRows
   space-pair h l r =
-      let e : rowsIn p (atomOf op x y) ≡ 3 = rows-add p .atom op x y h (omega arith) ∙ rw (le-leb op 3 l) in
+      let e : rowsIn n (atomOf op x y) ≡ 3 = rows-add n .atom op x y h (omega arith) ∙ rw (le-leb op 3 l) in
       record { out = omega (arith, r .space .out); row = omega (arith, r .space .row) }
 
-  pub space-ls : op ≡ 4 → Room p (atomOf op x y) s o → Space s (p + 1 + p) o
+  pub space-ls : op ≡ 4 → Room n (atomOf op x y) s o → Space s (n + 1 + n) o
   unfolding atomOf rowsIn
-  space-ls e r = let q : Room p (atomOf 4 x y) s o = rw e at r in q .space
+  space-ls e r = let q : Room n (atomOf 4 x y) s o = rw e at r in q .space
 
   module _ (a b : Fields) (t : Next) (now : List ℕ) (q : Puts s 3 0 0 (tenBytes a ++ tenBytes b ++ bytesOf (AND (s .row) (s .row + 1) ∷ [])) t o now) where
-    pub same-rows : op ≡ 1 → a ≡ plain 1 x y 0 → b ≡ plain 3 S 0 0 → Encoded p (atomOf op x y) A S s t o now
+    pub same-rows : op ≡ 1 → a ≡ plain 1 x y 0 → b ≡ plain 3 S 0 0 → Encoded n (atomOf op x y) A S s t o now
     unfolding atomOf rowsIn arraysIn setsIn rowsOf fieldsOf
     same-rows e d f = rw e (pair-rows (EQ x y) (EMPTY S) (s .row) d f q)
 
-    pub diff-rows : op ≡ 2 → a ≡ plain 2 x y 0 → b ≡ plain 3 S 0 0 → Encoded p (atomOf op x y) A S s t o now
+    pub diff-rows : op ≡ 2 → a ≡ plain 2 x y 0 → b ≡ plain 3 S 0 0 → Encoded n (atomOf op x y) A S s t o now
     unfolding atomOf rowsIn arraysIn setsIn rowsOf fieldsOf
     diff-rows e d f = rw e (pair-rows (NE x y) (EMPTY S) (s .row) d f q)
 
-    pub pts-rows : op ≡ 3 → a ≡ plain 4 S x 0 → b ≡ plain 5 A x y → Encoded p (atomOf op x y) A S s t o now
+    pub pts-rows : op ≡ 3 → a ≡ plain 4 S x 0 → b ≡ plain 5 A x y → Encoded n (atomOf op x y) A S s t o now
     unfolding atomOf rowsIn arraysIn setsIn rowsOf fieldsOf
     pts-rows e d f = rw e (pair-rows (ONE S x) (AT A x y) (s .row) d f q)
 
-  pub ls-rows : (t u : Next) (o₁ o₂ : List ℕ) → op ≡ 4 → Space s (p + 1 + p) o → Puts s (p + 1) 0 0 (bytesOf (chains A S x y (p + 1))) t o o₁
-      → Puts t p 0 0 (bytesOf (ors (s .row) (t .row) p)) u o₁ o₂ → Encoded p (atomOf op x y) A S s u o o₂
+  pub ls-rows : (t u : Next) (o₁ o₂ : List ℕ) → op ≡ 4 → Space s (n + 1 + n) o → Puts s (n + 1) 0 0 (bytesOf (chains A S x y (n + 1))) t o o₁
+      → Puts t n 0 0 (bytesOf (ors (s .row) (t .row) n)) u o₁ o₂ → Encoded n (atomOf op x y) A S s u o o₂
   unfolding atomOf rowsIn arraysIn setsIn rowsOf
   ls-rows t u o₁ o₂ e h q r =
-      rw e (rows-rows (chains A S x y (p + 1)) (ors (s .row) (s .row + (p + 1)) p) (chains-long A S x y (p + 1)) (omega (arith, h .out)) q
-      (puts-as refl refl refl (ap (λ (k : ℕ). bytesOf (ors (s .row) k p)) (row-after q)) r))
+      rw e (rows-rows (chains A S x y (n + 1)) (ors (s .row) (s .row + (n + 1)) n) (chains-long A S x y (n + 1)) (omega (arith, h .out)) q
+      (puts-as refl refl refl (ap (λ (k : ℕ). bytesOf (ors (s .row) k n)) (row-after q)) r))

@@ -1,4 +1,4 @@
-// The own rows of each operator: an atom's, those of operator 7, and those of operators 9 and 10.
+// The own rows of each operator: an atom's, those of operator 7, and those of operators 9 and 10; and the last two rows.
 use leaves::short;
 use rowbytes::plain;
 use rowbytes::put_also;
@@ -14,8 +14,8 @@ ghost use mathlib.Core.List.{[], _∷_};
 ghost use Prim.Native.Nat.{_+_, _-_, _≤_, _<_};
 ghost use Rattle.logic.specs.Table.{atomOf};
 ghost use Rattle.rows.specs.Row.{fieldsOf, bytesOf};
-ghost use Rattle.rows.specs.Row.Row.{AND, NOT, CHAIN};
-ghost use Rattle.rows.specs.Table.{sepRows, septRows, chains as chainsTo, ors as orsTo};
+ghost use Rattle.rows.specs.Row.Row.{AND, NOT, CHAIN, LONG};
+ghost use Rattle.rows.specs.Table.{also, sepRows, septRows, chains as chainsTo, ors as orsTo};
 ghost use Rattle.rowbytes.specs.Written.{Puts, Space};
 ghost use Rattle.ownrows.specs.Encoded.{Room, Encoded};
 
@@ -32,12 +32,12 @@ fn chain(a: u16, s: u16, x: u16, y: u16, k: u8) -> Fields
     }
 }
 
-// Writes CHAIN 0 to p.
-fn put_chains(out: &mut [u8], st: Next, a: u16, s: u16, x: u16, y: u16, p: u8) -> Next
-    requires { ⌜ (p < 255) × Space st (p + 1) (now out) ⌝ }
-    ensures { λ r. ⌜ Puts st (p + 1) 0 0 (bytesOf (chainsTo a s x y (p + 1))) r (now (out .entry)) (now (out .exit)) ⌝ }
+// Writes CHAIN 0 to n.
+fn put_chains(out: &mut [u8], st: Next, a: u16, s: u16, x: u16, y: u16, n: u8) -> Next
+    requires { ⌜ (n < 255) × Space st (n + 1) (now out) ⌝ }
+    ensures { λ r. ⌜ Puts st (n + 1) 0 0 (bytesOf (chainsTo a s x y (n + 1))) r (now (out .entry)) (now (out .exit)) ⌝ }
 {
-    let end = p + 1;
+    let end = n + 1;
     let mut t = st;
     let mut k: u8 = 0;
     while k < end {
@@ -47,15 +47,15 @@ fn put_chains(out: &mut [u8], st: Next, a: u16, s: u16, x: u16, y: u16, p: u8) -
     t
 }
 
-// Writes the p ORs behind the chains, which begin at row r.
-fn put_ors(out: &mut [u8], st: Next, r: u16, p: u8) -> Next
-    requires { ⌜ (r + p < st .row) × Space st p (now out) ⌝ }
-    ensures { λ w. ⌜ Puts st p 0 0 (bytesOf (orsTo r (st .row) p)) w (now (out .entry)) (now (out .exit)) ⌝ }
+// Writes the n ORs behind the chains, which begin at row r.
+fn put_ors(out: &mut [u8], st: Next, r: u16, n: u8) -> Next
+    requires { ⌜ (r + n < st .row) × Space st n (now out) ⌝ }
+    ensures { λ w. ⌜ Puts st n 0 0 (bytesOf (orsTo r (st .row) n)) w (now (out .entry)) (now (out .exit)) ⌝ }
 {
     let mut t = st;
     let mut last = r;
     let mut k: u8 = 0;
-    while k < p {
+    while k < n {
         let next = t.row;
         t = put_or(out, t, last, r + short(k) + 1);
         last = next;
@@ -65,17 +65,17 @@ fn put_ors(out: &mut [u8], st: Next, r: u16, p: u8) -> Next
 }
 
 // Writes the rows of an atom over array a and set s.
-pub fn put_atom(out: &mut [u8], op: u8, x: u16, y: u16, p: u8, a: u16, s: u16, st: Next) -> Next
-    requires { ⌜ (1 ≤ op) × (op ≤ 4) × (p < 255) × Room p (atomOf op x y) st (now out) ⌝ }
-    ensures { λ r. ⌜ Encoded p (atomOf op x y) a s st r (now (out .entry)) (now (out .exit)) ⌝ }
+pub fn put_atom(out: &mut [u8], op: u8, x: u16, y: u16, n: u8, a: u16, s: u16, st: Next) -> Next
+    requires { ⌜ (1 ≤ op) × (op ≤ 4) × (n < 255) × Room n (atomOf op x y) st (now out) ⌝ }
+    ensures { λ r. ⌜ Encoded n (atomOf op x y) a s st r (now (out .entry)) (now (out .exit)) ⌝ }
 {
     match op {
         1 => put_pair(out, st, plain(1, x, y, 0), plain(3, s, 0, 0)),
         2 => put_pair(out, st, plain(2, x, y, 0), plain(3, s, 0, 0)),
         3 => put_pair(out, st, plain(4, s, x, 0), plain(5, a, x, y)),
         _ => {
-            let t = put_chains(out, st, a, s, x, y, p);
-            put_ors(out, t, st.row, p)
+            let t = put_chains(out, st, a, s, x, y, n);
+            put_ors(out, t, st.row, n)
         }
     }
 }
@@ -108,4 +108,25 @@ pub fn put_sept(out: &mut [u8], st: Next, l: u16, a: u16, b: u16, s: u16, i: u16
     let u = put_also(out, t, plain(10, i + 1, i, s));
     let w = put_also(out, u, plain(11, b, i, s));
     put_also(out, w, plain(12, a, b, s))
+}
+
+fn long(p: u8) -> Fields
+    ensures { λ r. ⌜ r ≡ fieldsOf (LONG 0 0 p) ⌝ }
+{
+    Fields {
+        op: 13,
+        k: p,
+        a: 0,
+        b: 0,
+        c: 0,
+        d: 0,
+    }
+}
+
+// Writes the last two rows, LONG over array 0 and set 0 and the AND of the formula's row with it.
+pub fn put_long(out: &mut [u8], st: Next, p: u8) -> Next
+    requires { ⌜ (0 < st .row) × Space st 2 (now out) ⌝ }
+    ensures { λ r. ⌜ Puts st 2 0 0 (bytesOf (also (st .row - 1) (LONG 0 0 p))) r (now (out .entry)) (now (out .exit)) ⌝ }
+{
+    put_also(out, st, long(p))
 }

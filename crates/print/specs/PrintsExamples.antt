@@ -7,7 +7,7 @@ use native.Mathlib.Omega.{arith}
 use lib.ListN.{drop}
 use Rattle.logic.specs.declared.Answer.{Answer}
 use Rattle.logic.specs.Numbers.{yes-number}
-use Rattle.logic.specs.Tests.{any, all, digit, heapOf, points, sameBytes}
+use Rattle.logic.specs.Tests.{any, all, digit, heapOf, points, stepped, pathFrom, short, sameBytes}
 use Rattle.logic.specs.Truth.{truth}
 use Rattle.logic.specs.Table.{kindOf, uses, tree, deep, formOf, atomOf}
 use Rattle.logic.specs.Computed.{laidOut, boundsOk, formulaOk, operandOk, nodeOk, tableOk, allNamed, namedByAtom, accepted}
@@ -27,7 +27,7 @@ abbrev P1 : Searched
 P1 = record { book = P1-book; budget = budget; number = yes-number; tried = 6; model = 1 ∷ 1 ∷ [] }
 
 P1-test : searchedTest P1 ≡ true
-unfolding searchedTest worked-out written sameBytes fitsAt first outcomeOf digitsOf bytesTo accepted laidOut boundsOk formulaOk nodeOk operandOk tableOk allNamed namedByAtom truth any all digit heapOf points kindOf uses tree deep formOf atomOf
+unfolding searchedTest worked-out written sameBytes fitsAt first outcomeOf digitsOf bytesTo accepted laidOut boundsOk formulaOk nodeOk operandOk tableOk allNamed namedByAtom truth any all digit heapOf points stepped pathFrom short kindOf uses tree deep formOf atomOf
 P1-test = refl
 
 pub P1-prints : (lines : List ℕ) → Prints P1-book lines → lines ≡ P1-shown

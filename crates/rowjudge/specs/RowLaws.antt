@@ -115,20 +115,20 @@ is-same-heap A B S w1 w2 l1 l2 e1 e2 =
 
 -- ---- atoms
 
-module _ (v n p op x y : ℕ) (s h : Map) where
-  pub is-same-atom : (a b w : ℕ) (r z : Bool) → cells w ≡ h → op ≡ 1 → a ≡ s x → b ≡ s y → r ≡ andb (eqb a b) z → Is z (Empty (cells w)) → Is r (Holds v n p (atomOf op x y) s h)
+module _ (v n op x y : ℕ) (s h : Map) where
+  pub is-same-atom : (a b w : ℕ) (r z : Bool) → cells w ≡ h → op ≡ 1 → a ≡ s x → b ≡ s y → r ≡ andb (eqb a b) z → Is z (Empty (cells w)) → Is r (Holds v n (atomOf op x y) s h)
   unfolding Holds atomOf
   is-same-atom a b w r z m e d f c i = rw (e, c, d, f, ← m) (is-and (eqb (s x) (s y)) z (is-eq (s x) (s y)) i)
 
-  pub is-diff-atom : (a b w : ℕ) (r z : Bool) → cells w ≡ h → op ≡ 2 → a ≡ s x → b ≡ s y → r ≡ andb (not (eqb a b)) z → Is z (Empty (cells w)) → Is r (Holds v n p (atomOf op x y) s h)
+  pub is-diff-atom : (a b w : ℕ) (r z : Bool) → cells w ≡ h → op ≡ 2 → a ≡ s x → b ≡ s y → r ≡ andb (not (eqb a b)) z → Is z (Empty (cells w)) → Is r (Holds v n (atomOf op x y) s h)
   unfolding Holds atomOf
   is-diff-atom a b w r z m e d f c i = rw (e, c, d, f, ← m) (is-and (not (eqb (s x) (s y))) z (is-not (eqb (s x) (s y)) (is-eq (s x) (s y))) i)
 
-  pub is-pts-atom : (a b w : ℕ) (r : Bool) → cells w ≡ h → op ≡ 3 → a ≡ s x → b ≡ s y → Is r (Points a b (cells w)) → Is r (Holds v n p (atomOf op x y) s h)
+  pub is-pts-atom : (a b w : ℕ) (r : Bool) → cells w ≡ h → op ≡ 3 → a ≡ s x → b ≡ s y → Is r (Points a b (cells w)) → Is r (Holds v n (atomOf op x y) s h)
   unfolding Holds atomOf
   is-pts-atom a b w r m e d f i = rw (e, ← d, ← f, ← m) i
 
-  pub is-ls-atom : (a b w : ℕ) (r : Bool) → cells w ≡ h → op ≡ 4 → a ≡ s x → b ≡ s y → Is r (Segment p a b (cells w)) → Is r (Holds v n p (atomOf op x y) s h)
+  pub is-ls-atom : (a b w : ℕ) (r : Bool) → cells w ≡ h → op ≡ 4 → a ≡ s x → b ≡ s y → Is r (Segment a b (cells w)) → Is r (Holds v n (atomOf op x y) s h)
   unfolding Holds atomOf
   is-ls-atom a b w r m e d f i = rw (e, ← d, ← f, ← m) i
 

@@ -44,14 +44,14 @@ pub record Within (g : Setting) (F : Form) (A S i j : ℕ) : Type 0 where
 
 -- what is said of a formula, and the numbers after it
 pub record Judged (g : Setting) (q : List ℕ) (F : Form) (A S i j : ℕ) (r : Told) : Type 0 where
-  pub holds : Is (r .holds) (Condition (g .v) (g .p) (given g q) F A S i j)
+  pub holds : Is (r .holds) (Condition (g .v) (g .n) (given g q) F A S i j)
   pub array : r .array ≡ i + arraysIn F
   pub set : r .set ≡ j + setsIn F
 
 -- and of two, over one array and two sets
 pub record JudgedBoth (g : Setting) (q : List ℕ) (a b : Form) (A S T i j : ℕ) (r : Pair) : Type 0 where
-  pub first : Is (r .first) (Condition (g .v) (g .p) (given g q) a A S i j)
-  pub second : Is (r .second) (Condition (g .v) (g .p) (given g q) b A T (i + arraysIn a) (j + setsIn a))
+  pub first : Is (r .first) (Condition (g .v) (g .n) (given g q) a A S i j)
+  pub second : Is (r .second) (Condition (g .v) (g .n) (given g q) b A T (i + arraysIn a) (j + setsIn a))
   pub array : r .array ≡ i + (arraysIn a + arraysIn b)
   pub set : r .set ≡ j + (setsIn a + setsIn b)
 

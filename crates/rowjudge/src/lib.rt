@@ -8,6 +8,7 @@ use cells::spread;
 use leaves::long;
 use leaves::wide;
 use packing::packed;
+use paths::is_short;
 use rows::Arrays;
 ghost use mathlib.Core.Path.{_≡_};
 ghost use mathlib.Core.List.{[]};
@@ -20,16 +21,16 @@ ghost use Rattle.logic.specs.Table.{tree, atomOf, joinOf};
 ghost use Rattle.logic.specs.Book.{most, nodes, Known};
 ghost use Rattle.cells.specs.Cells.{word, cells};
 ghost use Rattle.rows.specs.Assignment.{on};
-ghost use Rattle.rows.specs.Meaning.{Splits, Apart, Same};
+ghost use Rattle.rows.specs.Meaning.{Splits, Apart, Same, Short};
 ghost use Rattle.rows.specs.Bounds.{mostArrays};
 ghost use Rattle.arrays.specs.Unpacked.{valuesIn};
 ghost use Rattle.rowjudge.specs.Setting.{given, Ready, Within, Judged, JudgedBoth, WithinBoth};
 
-// The bounds, the number of arrays and of sets, where the sets begin, the stack, packed, and the unnamed locations.
+// The number of variables, of locations, of arrays and of sets, where the sets begin, the stack, packed, and the unnamed
+// locations.
 pub struct Setting {
     pub v: u64,
     pub n: u64,
-    pub p: u64,
     pub arrays: usize,
     pub sets: usize,
     pub base: usize,
@@ -91,7 +92,7 @@ fn heap_at(q: &[u8], arrays: &Arrays, g: Setting, a: usize, s: usize) -> u64
 // Whether an atom over the variables x and y holds on array a and set s.
 fn atom(q: &[u8], arrays: &Arrays, g: Setting, op: u8, x: u64, y: u64, a: usize, s: usize) -> bool
     requires { ⌜ Ready g (now q) (now arrays) × (a < g .arrays) × (s < g .sets) × (1 ≤ op) × (op ≤ 4) × (x ≤ g .v) × (y ≤ g .v) ⌝ }
-    ensures { λ r. ⌜ Is r (Holds (g .v) (g .n) (g .p) (atomOf op x y) (given g (now (q .entry)) .stack) (on (given g (now (q .entry)) .array a) (given g (now (q .entry)) .set s))) ⌝ }
+    ensures { λ r. ⌜ Is r (Holds (g .v) (g .n) (atomOf op x y) (given g (now (q .entry)) .stack) (on (given g (now (q .entry)) .array a) (given g (now (q .entry)) .set s))) ⌝ }
 {
     let w = heap_at(q, arrays, g, a, s);
     let b = cell(g.stack, x);
@@ -100,7 +101,7 @@ fn atom(q: &[u8], arrays: &Arrays, g: Setting, op: u8, x: u64, y: u64, a: usize,
         1 => and(b == c, is_empty(w)),
         2 => and(b != c, is_empty(w)),
         3 => is_points(b, c, w),
-        _ => is_list(g.p, b, c, w),
+        _ => is_list(g.n, b, c, w),
     }
 }
 
@@ -131,6 +132,14 @@ fn is_same(q: &[u8], arrays: &Arrays, g: Setting, a: usize, b: usize, s: usize) 
     ensures { λ r. ⌜ Is r (Same (given g (now (q .entry)) .array a) (given g (now (q .entry)) .array b) (given g (now (q .entry)) .set s)) ⌝ }
 {
     heap_at(q, arrays, g, a, s) == heap_at(q, arrays, g, b, s)
+}
+
+// LONG, which holds where no path is long.
+pub fn long_holds(q: &[u8], arrays: &Arrays, g: Setting, a: usize, s: usize, k: u64) -> bool
+    requires { ⌜ Ready g (now q) (now arrays) × (a < g .arrays) × (s < g .sets) ⌝ }
+    ensures { λ r. ⌜ Is r (Short (given g (now (q .entry)) .array a) (given g (now (q .entry)) .set s) k) ⌝ }
+{
+    is_short(g.n, k, heap_at(q, arrays, g, a, s))
 }
 
 // Whether the last row of node k's rows holds, over array a and set s, where the next array is i and the next set j.

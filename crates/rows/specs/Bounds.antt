@@ -3,12 +3,12 @@ use Prim.Native.Nat.{ℕ, _+_}
 use lib.Dec.{eqb, leb}
 use Rattle.logic.specs.Tests.{pick}
 
--- "At most 634 rows and 6,354 bytes."
+-- "The most is then 636 rows, 6,374 bytes"
 abbrev pub mostRows : ℕ
-mostRows = 634
+mostRows = 636
 
 abbrev pub mostBytes : ℕ
-mostBytes = 6354
+mostBytes = 6374
 
 -- "The judge has up to 32 arrays"
 abbrev pub mostArrays : ℕ
@@ -17,9 +17,10 @@ mostArrays = 32
 abbrev pub mostSets : ℕ
 mostSets = 63
 
--- how many own rows a node of operator o has, at path bound p
+-- how many own rows a node of operator o has, over n locations
 unfoldable pub ownRows : ℕ → ℕ → ℕ
-ownRows p o = pick (leb o 3) 3 (pick (leb o 4) (p + 1 + p) (pick (eqb o 7) 2 (pick (leb o 8) 1 (pick (leb o 9) 5 7))))
+ownRows n o =
+    pick (leb o 3) 3 (pick (leb o 4) (n + 1 + n) (pick (eqb o 7) 2 (pick (leb o 8) 1 (pick (leb o 9) 5 7))))
 
 -- how many arrays and sets it makes
 unfoldable pub ownArrays : ℕ → ℕ

@@ -1,4 +1,4 @@
--- The table of an accepted book has at most 634 rows, 32 arrays and 63 sets. Assumes nothing.
+-- The table of an accepted book has at most 636 rows, 32 arrays and 63 sets. Assumes nothing.
 use mathlib.Core.Path.{_≡_, refl}
 use mathlib.Core.List.{List}
 use Prim.Native.Nat.{ℕ, suc, _+_, _*_, _<_, _≤_}
@@ -13,12 +13,12 @@ use Rattle.rows.specs.Bounds.{mostRows, mostArrays, mostSets, ownRows, o
 
 -- ---- rows, arrays and sets add up
 
-pub rows-add : (p : ℕ) → Adds (rowsIn p) (λ o x y. ownRows p o)
+pub rows-add : (n : ℕ) → Adds (rowsIn n) (λ o x y. ownRows n o)
 unfolding rowsIn ownRows atomOf joinOf joinFrom5 kindOf
-rows-add p =
+rows-add n =
     record {
-      atom = λ o x y. each-atom (λ o. rowsIn p (atomOf o x y) ≡ ownRows p o) refl refl refl refl o;
-      join = λ o x y a b. each-join (λ o. rowsIn p (joinOf o a b) ≡ ownRows p o + (kid o 0 (rowsIn p a) + kid o 1 (rowsIn p b)))
+      atom = λ o x y. each-atom (λ o. rowsIn n (atomOf o x y) ≡ ownRows n o) refl refl refl refl o;
+      join = λ o x y a b. each-join (λ o. rowsIn n (joinOf o a b) ≡ ownRows n o + (kid o 0 (rowsIn n a) + kid o 1 (rowsIn n b)))
           (omega arith) (omega arith) (omega arith) (omega arith) (omega arith) (omega arith) o;
     }
 
@@ -43,15 +43,15 @@ sets-add =
 -- ---- the whole tree
 
 -- what a node of operator o adds at the most, by how many children it has
-record Kind (p o : ℕ) : Type 0 where
-  rows : ownRows p o ≤ none o * (2 * most + 1) + one o * 1 + two o * 7
+record Kind (locs o : ℕ) : Type 0 where
+  rows : ownRows locs o ≤ none o * (2 * most + 1) + one o * 1 + two o * 7
   arrays : ownArrays o ≤ none o * 0 + one o * 0 + two o * 1
   sets : ownSets o ≤ none o * 0 + one o * 0 + two o * 2
 
-kind : (p o : ℕ) → p ≤ most → 1 ≤ o → o ≤ 10 → Kind p o
+kind : (locs o : ℕ) → locs ≤ most → 1 ≤ o → o ≤ 10 → Kind locs o
 unfolding ownRows ownArrays ownSets
-kind p o q =
-    each-operator (Kind p)
+kind locs o q =
+    each-operator (Kind locs)
     (record { rows = omega arith; arrays = omega arith; sets = omega arith })
     (record { rows = omega arith; arrays = omega arith; sets = omega arith })
     (record { rows = omega arith; arrays = omega arith; sets = omega arith })
@@ -64,14 +64,15 @@ kind p o q =
     (record { rows = omega arith; arrays = omega arith; sets = omega arith })
     o
 
-module _ (v p : ℕ) (f : List ℕ) (n : ℕ) (ok : Sound v f n) (t : Tree f n) (m : ℕ) (e : n ≡ suc m) (few : n ≤ 64) (low : p ≤ most) where
-  at : (k : ℕ) → k < n → Kind p (opOf f k)
-  at k l = kind p (opOf f k) low (ok k l .operator .0) (ok k l .operator .1)
+module _ (v locs : ℕ) (f : List ℕ) (n : ℕ) (ok : Sound v f n) (t : Tree f n) (m : ℕ) (e : n ≡ suc m) (few : n ≤ 64) (low : locs ≤ most) where
+  at : (k : ℕ) → k < n → Kind locs (opOf f k)
+  at k l = kind locs (opOf f k) low (ok k l .operator .0) (ok k l .operator .1)
 
-  pub rows-few : rowsIn p (tree f m) ≤ mostRows
+  -- with LONG and its AND
+  pub rows-few : rowsIn locs (tree f m) + 2 ≤ mostRows
   rows-few =
-      let less = at-most v f n ok t m e (λ k. ownRows p (opOf f k)) (2 * most + 1) 1 7 (λ k l. at k l .rows) in
-      omega (arith, adds-up v f n ok t m e (rowsIn p) (λ o x y. ownRows p o) (rows-add p), less, nodes-counted v f n ok t m e, children-counted v f n ok t m e)
+      let less = at-most v f n ok t m e (λ k. ownRows locs (opOf f k)) (2 * most + 1) 1 7 (λ k l. at k l .rows) in
+      omega (arith, adds-up v f n ok t m e (rowsIn locs) (λ o x y. ownRows locs o) (rows-add locs), less, nodes-counted v f n ok t m e, children-counted v f n ok t m e)
 
   pub arrays-few : arrays (tree f m) ≤ mostArrays
   arrays-few =

@@ -10,12 +10,12 @@ use Rattle.rows.specs.Meaning.{NoMember, Just, Holding, Links, Splits, A
 use Rattle.rows.specs.Table.{arraysIn, setsIn}
 
 -- over array A and set S, with new arrays from number i and new sets from number j on
-module _ (v p : ℕ) (ν : Assignment) where
+module _ (v n : ℕ) (ν : Assignment) where
   unfoldable pub Condition : Form → ℕ → ℕ → ℕ → ℕ → Type 0
   Condition (same x y) A S i j = (ν .stack x ≡ ν .stack y) × NoMember (ν .set S)
   Condition (diff x y) A S i j = (¬ (ν .stack x ≡ ν .stack y)) × NoMember (ν .set S)
   Condition (pts x y) A S i j = Just (ν .set S) (ν .stack x) × Holding (ν .array A) (ν .stack x) (ν .stack y)
-  Condition (ls x y) A S i j = (k : ℕ) × (k ≤ p) × Links (ν .array A) (ν .set S) (ν .stack x) (ν .stack y) k
+  Condition (ls x y) A S i j = (k : ℕ) × (k ≤ n) × Links (ν .array A) (ν .set S) (ν .stack x) (ν .stack y) k
   Condition (conj a b) A S i j = Condition a A S i j × Condition b A S (i + arraysIn a) (j + setsIn a)
   Condition (disj a b) A S i j = Condition a A S i j ⊎ Condition b A S (i + arraysIn a) (j + setsIn a)
   Condition (but a b) A S i j = Condition a A S i j × (¬ Condition b A S (i + arraysIn a) (j + setsIn a))

@@ -11,12 +11,13 @@ use Rattle.rows.specs.Output.{encodingOf}
 abbrev pub p1 : List ℕ
 p1 = 2 ∷ 1 ∷ 11 ∷ 0 ∷ 3 ∷ 0 ∷ 2 ∷ 14 ∷ 0 ∷ 3 ∷ 0 ∷ 1 ∷ 1 ∷ 1 ∷ 3 ∷ 1 ∷ 1 ∷ []
 
--- "Its encoding has 44 bytes: 02 01 0B 00 03 00 03 0E 00 1E 00 01 01 01, then 04 00 00 00 01 00 00 00 00 00, then 05 00 00 00 01
--- 00 01 00 00 00, then 07 00 00 00 01 00 00 00 00 00."
+-- "P1's encoding is 64 bytes": a head of 14, ONE, AT and AND as before, then LONG over array 0 and set 0 with p = 1, and AND
 pub p1-encoding : encodingOf p1 ≡
-    2 ∷ 1 ∷ 11 ∷ 0 ∷ 3 ∷ 0 ∷ 3 ∷ 14 ∷ 0 ∷ 30 ∷ 0 ∷ 1 ∷ 1 ∷ 1
+    2 ∷ 1 ∷ 11 ∷ 0 ∷ 3 ∷ 0 ∷ 3 ∷ 14 ∷ 0 ∷ 50 ∷ 0 ∷ 1 ∷ 1 ∷ 1
     ∷ 4 ∷ 0 ∷ 0 ∷ 0 ∷ 1 ∷ 0 ∷ 0 ∷ 0 ∷ 0 ∷ 0
     ∷ 5 ∷ 0 ∷ 0 ∷ 0 ∷ 1 ∷ 0 ∷ 1 ∷ 0 ∷ 0 ∷ 0
-    ∷ 7 ∷ 0 ∷ 0 ∷ 0 ∷ 1 ∷ 0 ∷ 0 ∷ 0 ∷ 0 ∷ 0 ∷ []
+    ∷ 7 ∷ 0 ∷ 0 ∷ 0 ∷ 1 ∷ 0 ∷ 0 ∷ 0 ∷ 0 ∷ 0
+    ∷ 13 ∷ 1 ∷ 0 ∷ 0 ∷ 0 ∷ 0 ∷ 0 ∷ 0 ∷ 0 ∷ 0
+    ∷ 7 ∷ 0 ∷ 2 ∷ 0 ∷ 3 ∷ 0 ∷ 0 ∷ 0 ∷ 0 ∷ 0 ∷ []
 unfolding encodingOf bytesOf fieldsOf rowsOf rowsIn arraysIn setsIn tree deep formOf atomOf joinOf joinFrom5
 p1-encoding = refl

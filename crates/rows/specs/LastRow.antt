@@ -5,17 +5,18 @@ use mathlib.Core.Logic.{_⊎_, inl, inr, ⊎-elim, _↔_}
 use Prim.Native.Nat.{ℕ, zero, suc, zero-le, _+_, _-_, _<_, _≤_}
 use native.Mathlib.Nat.{not-suc-le-zero, eq-or-lt-of-le, le-of-suc-le-suc}
 use native.Mathlib.Omega.{arith}
-use lib.ListN.{length, getD}
+use lib.ListN.{length, getD, length-append}
 use borrow.Author.Tests.{eq-eqb, ne-eqb}
 use Rattle.logic.specs.Formula.{Form}
 use Rattle.logic.specs.Formula.Form.{same, diff, pts, ls, conj, disj, but, neg, sep, sept}
+use Rattle.logic.specs.Paths.{NoLongPath}
 use Rattle.rows.specs.declared.Next.{Next}
-use Rattle.rows.specs.Assignment.{Assignment}
+use Rattle.rows.specs.Assignment.{Assignment, modelHeap}
 use Rattle.rows.specs.Row.{Row}
-use Rattle.rows.specs.Row.Row.{EQ, NE, EMPTY, ONE, AT, CHAIN, AND, OR, NOT, SPLIT, APART, SAME}
-use Rattle.rows.specs.Meaning.{Means, HoldsBefore, RowHolds, Satisfies, Links}
-use Rattle.rows.specs.Table.{arraysIn, setsIn, twoSets, arrayAndSets, after, chains, ors, soFar, pairRows, rowsIn, rowsOf, start, table}
-use Rattle.rows.specs.TableLaws.{chains-long, chains-at, ors-long, ors-at, rows-some, rows-long, trees-long, Here, here-first, here-second, here-at}
+use Rattle.rows.specs.Row.Row.{EQ, NE, EMPTY, ONE, AT, CHAIN, AND, OR, NOT, SPLIT, APART, SAME, LONG}
+use Rattle.rows.specs.Meaning.{Means, HoldsBefore, RowHolds, Satisfies, Links, Splits, Apart}
+use Rattle.rows.specs.Table.{arraysIn, setsIn, twoSets, arrayAndSets, after, chains, ors, soFar, pairRows, also, sepRows, rowsIn, rowsOf, start, table}
+use Rattle.rows.specs.TableLaws.{chains-long, chains-at, ors-long, ors-at, rows-some, rows-long, trees-long, table-long, Here, here-first, here-second, here-at}
 use Rattle.rows.specs.Condition.{Condition}
 
 iff-and : {P Q R T : Type 0} → P ↔ Q → R ↔ T → (P × R) ↔ (Q × T)
@@ -33,7 +34,7 @@ iff-trans f g = (λ p. g .0 (f .0 p), λ r. f .1 (g .1 r))
 iff-of : {P Q : Type 0} → P ≡ Q → P ↔ Q
 iff-of e = (λ p. subst (λ (X : Type 0). X) e p, λ q. subst (λ (X : Type 0). X) (sym e) q)
 
-module _ (v p : ℕ) (ν : Assignment) (rs : List Row) where
+module _ (v n : ℕ) (ν : Assignment) (rs : List Row) where
   -- a row keeps what it says, whatever comes after it
   row-kept : (d k : ℕ) → k < d → HoldsBefore v ν rs d k ≡ RowHolds v ν rs k
   row-kept zero k l = absurd (not-suc-le-zero l)
@@ -71,18 +72,18 @@ module _ (v p : ℕ) (ν : Assignment) (rs : List Row) where
 
   -- what is to be shown of a formula
   Says : Form → Type 0
-  Says F = (A S : ℕ) (s : Next) → Here rs (s .row) (rowsOf p F A S s) → RowHolds v ν rs (after p F s .row - 1) ↔ Condition v p ν F A S (s .array) (s .set)
+  Says F = (A S : ℕ) (s : Next) → Here rs (s .row) (rowsOf n F A S s) → RowHolds v ν rs (after n F s .row - 1) ↔ Condition v n ν F A S (s .array) (s .set)
 
   -- the result after m ORs
-  module _ (A S x y r : ℕ) (hc : Here rs r (chains A S x y (p + 1))) (ho : Here rs (r + (p + 1)) (ors r (r + (p + 1)) p)) where
+  module _ (A S x y r : ℕ) (hc : Here rs r (chains A S x y (n + 1))) (ho : Here rs (r + (n + 1)) (ors r (r + (n + 1)) n)) where
     Upto : ℕ → Type 0
     Upto m = (k : ℕ) × (k ≤ m) × Links (ν .array A) (ν .set S) (ν .stack x) (ν .stack y) k
 
-    chain-row : (m : ℕ) → m ≤ p → RowHolds v ν rs (r + m) ↔ Links (ν .array A) (ν .set S) (ν .stack x) (ν .stack y) m
+    chain-row : (m : ℕ) → m ≤ n → RowHolds v ν rs (r + m) ↔ Links (ν .array A) (ν .set S) (ν .stack x) (ν .stack y) m
     unfolding Means
     chain-row m l =
-        let i : m < length (chains A S x y (p + 1)) = omega (arith, chains-long A S x y (p + 1)) in
-        iff-of (row-is (r + m) (CHAIN A S x y m) (hc m i ∙ chains-at A S x y (p + 1) m (omega arith)))
+        let i : m < length (chains A S x y (n + 1)) = omega (arith, chains-long A S x y (n + 1)) in
+        iff-of (row-is (r + m) (CHAIN A S x y m) (hc m i ∙ chains-at A S x y (n + 1) m (omega arith)))
 
     one-more : (m : ℕ) → (Upto m ⊎ Links (ν .array A) (ν .set S) (ν .stack x) (ν .stack y) (m + 1)) ↔ Upto (suc m)
     unfolding Upto
@@ -92,7 +93,7 @@ module _ (v p : ℕ) (ν : Assignment) (rs : List Row) where
           (λ (l : q .0 < suc m). inl (q .0, le-of-suc-le-suc l, q .2)) (eq-or-lt-of-le (q .1)),
     )
 
-    or-rows : (m : ℕ) → m ≤ p → RowHolds v ν rs (soFar r (r + (p + 1)) m) ↔ Upto m
+    or-rows : (m : ℕ) → m ≤ n → RowHolds v ν rs (soFar r (r + (n + 1)) m) ↔ Upto m
     unfolding soFar Upto
     or-rows zero l =
         let e : r + 0 ≡ r = omega arith in
@@ -100,25 +101,25 @@ module _ (v p : ℕ) (ν : Assignment) (rs : List Row) where
         (λ q. (0, zero-le, q), λ q. subst (Links (ν .array A) (ν .set S) (ν .stack x) (ν .stack y)) (omega (arith, q .1)) (q .2))
     or-rows (suc m) l =
         let e : r + (m + 1) ≡ r + m + 1 = omega arith in
-        let k = r + (p + 1) + m in
-        iff-trans (or-row k (soFar r (r + (p + 1)) m) (r + m + 1)
-        (here-at rs (r + (p + 1)) (ors r (r + (p + 1)) p) ho m k (omega (arith, ors-long r (r + (p + 1)) p)) refl ∙ ors-at r (r + (p + 1)) p m l)
+        let k = r + (n + 1) + m in
+        iff-trans (or-row k (soFar r (r + (n + 1)) m) (r + m + 1)
+        (here-at rs (r + (n + 1)) (ors r (r + (n + 1)) n) ho m k (omega (arith, ors-long r (r + (n + 1)) n)) refl ∙ ors-at r (r + (n + 1)) n m l)
         (before m) (omega arith) (or-rows m (omega arith))
         (subst (λ (i : ℕ). RowHolds v ν rs i ↔ Links (ν .array A) (ν .set S) (ν .stack x) (ν .stack y) (m + 1)) e (chain-row (m + 1) (omega arith))))
         (one-more m)
       where
-        before : (m : ℕ) → soFar r (r + (p + 1)) m < r + (p + 1) + m
+        before : (m : ℕ) → soFar r (r + (n + 1)) m < r + (n + 1) + m
         before zero = omega arith
         before (suc m) = omega arith
 
   says-ls : (x y : ℕ) → Says (ls x y)
   unfolding Says rowsOf rowsIn Condition Upto
   says-ls x y A S s h =
-      let xs = chains A S x y (p + 1) in
-      let ys = ors (s .row) (s .row + (p + 1)) p in
+      let xs = chains A S x y (n + 1) in
+      let ys = ors (s .row) (s .row + (n + 1)) n in
       let hc = here-first rs (s .row) xs ys h in
-      let ho = here-second rs (s .row) xs ys (s .row + (p + 1)) h (omega (arith, chains-long A S x y (p + 1))) in
-      subst (λ (k : ℕ). RowHolds v ν rs k ↔ Upto A S x y (s .row) hc ho p) (end p) (or-rows A S x y (s .row) hc ho p (omega arith))
+      let ho = here-second rs (s .row) xs ys (s .row + (n + 1)) h (omega (arith, chains-long A S x y (n + 1))) in
+      subst (λ (k : ℕ). RowHolds v ν rs k ↔ Upto A S x y (s .row) hc ho n) (end n) (or-rows A S x y (s .row) hc ho n (omega arith))
     where
       end : (m : ℕ) → soFar (s .row) (s .row + (m + 1)) m ≡ s .row + (m + 1 + m) - 1
       end zero = unfold soFar in omega arith
@@ -126,63 +127,63 @@ module _ (v p : ℕ) (ν : Assignment) (rs : List Row) where
 
   -- two trees over array A
   record Both (a b : Form) (A S T : ℕ) (s : Next) : Type 0 where
-    first : RowHolds v ν rs (after p a s .row - 1) ↔ Condition v p ν a A S (s .array) (s .set)
-    second : RowHolds v ν rs (after p b (after p a s) .row - 1) ↔ Condition v p ν b A T (s .array + arraysIn a) (s .set + setsIn a)
+    first : RowHolds v ν rs (after n a s .row - 1) ↔ Condition v n ν a A S (s .array) (s .set)
+    second : RowHolds v ν rs (after n b (after n a s) .row - 1) ↔ Condition v n ν b A T (s .array + arraysIn a) (s .set + setsIn a)
 
-  both : (a b : Form) → Says a → Says b → (A S T : ℕ) (s : Next) → Here rs (s .row) (rowsOf p a A S s ++ rowsOf p b A T (after p a s)) → Both a b A S T s
+  both : (a b : Form) → Says a → Says b → (A S T : ℕ) (s : Next) → Here rs (s .row) (rowsOf n a A S s ++ rowsOf n b A T (after n a s)) → Both a b A S T s
   unfolding Says
   both a b sa sb A S T s h =
-      let xs = rowsOf p a A S s in
-      let ys = rowsOf p b A T (after p a s) in
+      let xs = rowsOf n a A S s in
+      let ys = rowsOf n b A T (after n a s) in
       record {
         first = sa A S s (here-first rs (s .row) xs ys h);
-        second = sb A T (after p a s) (here-second rs (s .row) xs ys (s .row + rowsIn p a) h (omega (arith, rows-long p a A S s)));
+        second = sb A T (after n a s) (here-second rs (s .row) xs ys (s .row + rowsIn n a) h (omega (arith, rows-long n a A S s)));
       }
 
   -- where the last rows of the two trees stand, below a row behind them
-  module _ (a b : Form) (A S T : ℕ) (s : Next) (k : ℕ) (l : after p b (after p a s) .row ≤ k) where
-    first-below : after p a s .row - 1 < k
-    first-below = omega (arith, rows-some p a)
+  module _ (a b : Form) (A S T : ℕ) (s : Next) (k : ℕ) (l : after n b (after n a s) .row ≤ k) where
+    first-below : after n a s .row - 1 < k
+    first-below = omega (arith, rows-some n a)
 
-    second-below : after p b (after p a s) .row - 1 < k
-    second-below = omega (arith, rows-some p b)
+    second-below : after n b (after n a s) .row - 1 < k
+    second-below = omega (arith, rows-some n b)
 
   says-conj : (a b : Form) → Says a → Says b → Says (conj a b)
   unfolding Says rowsOf rowsIn Condition
   says-conj a b sa sb A S s h =
-      let t = after p a s in
-      let u = after p b t in
-      let xs = rowsOf p a A S s ++ rowsOf p b A S t in
+      let t = after n a s in
+      let u = after n b t in
+      let xs = rowsOf n a A S s ++ rowsOf n b A S t in
       let own = AND (t .row - 1) (u .row - 1) ∷ [] in
-      let k = s .row + (rowsIn p a + rowsIn p b + 1) - 1 in
+      let k = s .row + (rowsIn n a + rowsIn n b + 1) - 1 in
       let q = both a b sa sb A S S s (here-first rs (s .row) xs own h) in
-      let ho = here-second rs (s .row) xs own (u .row) h (omega (arith, trees-long p a b A S S s)) in
+      let ho = here-second rs (s .row) xs own (u .row) h (omega (arith, trees-long n a b A S S s)) in
       and-row k (t .row - 1) (u .row - 1) (here-at rs (u .row) own ho 0 k (omega arith) (omega arith))
       (first-below a b A S S s k (omega arith)) (second-below a b A S S s k (omega arith)) (q .first) (q .second)
 
   says-disj : (a b : Form) → Says a → Says b → Says (disj a b)
   unfolding Says rowsOf rowsIn Condition
   says-disj a b sa sb A S s h =
-      let t = after p a s in
-      let u = after p b t in
-      let xs = rowsOf p a A S s ++ rowsOf p b A S t in
+      let t = after n a s in
+      let u = after n b t in
+      let xs = rowsOf n a A S s ++ rowsOf n b A S t in
       let own = OR (t .row - 1) (u .row - 1) ∷ [] in
-      let k = s .row + (rowsIn p a + rowsIn p b + 1) - 1 in
+      let k = s .row + (rowsIn n a + rowsIn n b + 1) - 1 in
       let q = both a b sa sb A S S s (here-first rs (s .row) xs own h) in
-      let ho = here-second rs (s .row) xs own (u .row) h (omega (arith, trees-long p a b A S S s)) in
+      let ho = here-second rs (s .row) xs own (u .row) h (omega (arith, trees-long n a b A S S s)) in
       or-row k (t .row - 1) (u .row - 1) (here-at rs (u .row) own ho 0 k (omega arith) (omega arith))
       (first-below a b A S S s k (omega arith)) (second-below a b A S S s k (omega arith)) (q .first) (q .second)
 
   says-but : (a b : Form) → Says a → Says b → Says (but a b)
   unfolding Says rowsOf rowsIn Condition
   says-but a b sa sb A S s h =
-      let t = after p a s in
-      let u = after p b t in
-      let xs = rowsOf p a A S s ++ rowsOf p b A S t in
+      let t = after n a s in
+      let u = after n b t in
+      let xs = rowsOf n a A S s ++ rowsOf n b A S t in
       let own = NOT (u .row - 1) ∷ AND (t .row - 1) (u .row) ∷ [] in
-      let k = s .row + (rowsIn p a + rowsIn p b + 2) - 1 in
+      let k = s .row + (rowsIn n a + rowsIn n b + 2) - 1 in
       let q = both a b sa sb A S S s (here-first rs (s .row) xs own h) in
-      let ho = here-second rs (s .row) xs own (u .row) h (omega (arith, trees-long p a b A S S s)) in
+      let ho = here-second rs (s .row) xs own (u .row) h (omega (arith, trees-long n a b A S S s)) in
       let no = not-row (u .row) (u .row - 1) (here-at rs (u .row) own ho 0 (u .row) (omega arith) (omega arith)) (second-below a b A S S s (u .row) (omega arith)) (q .second) in
       and-row k (t .row - 1) (u .row) (here-at rs (u .row) own ho 1 k (omega arith) (omega arith))
       (first-below a b A S S s k (omega arith)) (omega arith) (q .first) no
@@ -190,56 +191,70 @@ module _ (v p : ℕ) (ν : Assignment) (rs : List Row) where
   says-neg : (a : Form) → Says a → Says (neg a)
   unfolding Says rowsOf rowsIn Condition
   says-neg a sa A S s h =
-      let t = after p a s in
-      let xs = rowsOf p a A S s in
+      let t = after n a s in
+      let xs = rowsOf n a A S s in
       let own = NOT (t .row - 1) ∷ [] in
-      let k = s .row + (rowsIn p a + 1) - 1 in
-      let ho = here-second rs (s .row) xs own (t .row) h (omega (arith, rows-long p a A S s)) in
-      not-row k (t .row - 1) (here-at rs (t .row) own ho 0 k (omega arith) (omega arith)) (omega (arith, rows-some p a)) (sa A S s (here-first rs (s .row) xs own h))
+      let k = s .row + (rowsIn n a + 1) - 1 in
+      let ho = here-second rs (s .row) xs own (t .row) h (omega (arith, rows-long n a A S s)) in
+      not-row k (t .row - 1) (here-at rs (t .row) own ho 0 k (omega arith) (omega arith)) (omega (arith, rows-some n a)) (sa A S s (here-first rs (s .row) xs own h))
+
+  -- a row by another name of its number
+  row-at : (j k : ℕ) {P : Type 0} → j ≡ k → RowHolds v ν rs j ↔ P → RowHolds v ν rs k ↔ P
+  row-at j k e f = rw (← e) f
+
+  -- the row after the result so far, and their AND
+  also-row : (r : ℕ) (x : Row) {P Q : Type 0} → Here rs (r + 1) (also r x) → RowHolds v ν rs r ↔ P → Means v ν (HoldsBefore v ν rs (r + 1)) x ↔ Q → RowHolds v ν rs (r + 2) ↔ (P × Q)
+  also-row r x h f g =
+      and-row (r + 2) r (r + 1) (here-at rs (r + 1) (also r x) h 1 (r + 2) (omega arith) (omega arith)) (omega arith) (omega arith) f
+      (iff-trans (iff-of (row-is (r + 1) x (here-at rs (r + 1) (also r x) h 0 (r + 1) (omega arith) (omega arith)))) g)
+
+  -- the children, SPLIT, and APART: row m is the AND of the children
+  split-rows : (a b : Form) (A S T : ℕ) (s : Next) (x y z B w u m : ℕ) → Both a b A S T s → m ≡ after n b (after n a s) .row
+      → Here rs m ((AND (after n a s .row - 1) (m - 1) ∷ also m (SPLIT x y z)) ++ also (m + 2) (APART B w u))
+      → RowHolds v ν rs (m + 4) ↔ (((Condition v n ν a A S (s .array) (s .set) × Condition v n ν b A T (s .array + arraysIn a) (s .set + setsIn a)) × Splits (ν .set x) (ν .set y) (ν .set z)) × Apart v (ν .stack) (ν .array B) (ν .set w) (ν .set u))
+  unfolding Means
+  split-rows a b A S T s x y z B w u m q e h =
+      let t = after n a s in
+      let own = AND (t .row - 1) (m - 1) ∷ also m (SPLIT x y z) in
+      let ho = here-first rs m own (also (m + 2) (APART B w u)) h in
+      let trees = and-row m (t .row - 1) (m - 1) (here-at rs m own ho 0 m (omega arith) (omega arith))
+      (first-below a b A S T s m (omega arith)) (omega (arith, rows-some n b)) (q .first) (subst (λ (k : ℕ). RowHolds v ν rs (k - 1) ↔ Condition v n ν b A T (s .array + arraysIn a) (s .set + setsIn a)) (sym e) (q .second)) in
+      let hs = here-second rs m (AND (t .row - 1) (m - 1) ∷ []) (also m (SPLIT x y z)) (m + 1) ho refl in
+      let ha = here-second rs m own (also (m + 2) (APART B w u)) (m + 2 + 1) h (omega arith) in
+      row-at (m + 2 + 2) (m + 4) (omega arith) (also-row (m + 2) (APART B w u) ha (also-row m (SPLIT x y z) hs trees (λ q. q, λ q. q)) (λ q. q, λ q. q))
 
   says-sep : (a b : Form) → Says a → Says b → Says (sep a b)
-  unfolding Says rowsOf rowsIn Condition Means
+  unfolding Says rowsOf rowsIn Condition
   says-sep a b sa sb A S s h =
       let s₁ = twoSets s in
-      let t = after p a s₁ in
-      let m = after p b t .row in
-      let x = SPLIT S (s .set) (s .set + 1) in
-      let y = APART A (s .set) (s .set + 1) in
-      let xs = rowsOf p a A (s .set) s₁ ++ rowsOf p b A (s .set + 1) t in
-      let own = AND (t .row - 1) (m - 1) ∷ x ∷ AND m (m + 1) ∷ y ∷ AND (m + 2) (m + 3) ∷ [] in
-      let k = s .row + (rowsIn p a + rowsIn p b + 5) - 1 in
+      let t = after n a s₁ in
+      let m = after n b t .row in
+      let xs = rowsOf n a A (s .set) s₁ ++ rowsOf n b A (s .set + 1) t in
+      let own = sepRows A S (s .set) (s .set + 1) (t .row) m in
       let q = both a b sa sb A (s .set) (s .set + 1) s₁ (here-first rs (s .row) xs own h) in
-      let ho = here-second rs (s .row) xs own m h (omega (arith, trees-long p a b A (s .set) (s .set + 1) s₁)) in
-      let trees = and-row m (t .row - 1) (m - 1) (here-at rs m own ho 0 m (omega arith) (omega arith))
-      (first-below a b A S S s₁ m (omega arith)) (second-below a b A S S s₁ m (omega arith)) (q .first) (q .second) in
-      let split = iff-of (row-is (m + 1) x (here-at rs m own ho 1 (m + 1) (omega arith) refl)) in
-      let apart = iff-of (row-is (m + 3) y (here-at rs m own ho 3 (m + 3) (omega arith) refl)) in
-      and-row k (m + 2) (m + 3) (here-at rs m own ho 4 k (omega arith) (omega arith)) (omega arith) (omega arith)
-      (and-row (m + 2) m (m + 1) (here-at rs m own ho 2 (m + 2) (omega arith) refl) (omega arith) (omega arith) trees split) apart
+      let ho = here-second rs (s .row) xs own m h (omega (arith, trees-long n a b A (s .set) (s .set + 1) s₁)) in
+      let e : m + 4 ≡ s .row + (rowsIn n a + rowsIn n b + 5) - 1 = omega arith in
+      row-at (m + 4) _ e (split-rows a b A (s .set) (s .set + 1) s₁ _ _ _ _ _ _ m q refl ho)
 
   says-sept : (a b : Form) → Says a → Says b → Says (sept a b)
   unfolding Says rowsOf rowsIn Condition Means
   says-sept a b sa sb A S s h =
       let s₁ = arrayAndSets s in
       let B = s .array in
-      let t = after p a s₁ in
-      let m = after p b t .row in
+      let t = after n a s₁ in
+      let m = after n b t .row in
+      let xs = rowsOf n a B (s .set) s₁ ++ rowsOf n b B (s .set + 1) t in
       let x = SPLIT (s .set + 1) (s .set) S in
       let y = APART B (s .set) S in
-      let z = SAME A B S in
-      let xs = rowsOf p a B (s .set) s₁ ++ rowsOf p b B (s .set + 1) t in
-      let own = AND (t .row - 1) (m - 1) ∷ x ∷ AND m (m + 1) ∷ y ∷ AND (m + 2) (m + 3) ∷ z ∷ AND (m + 4) (m + 5) ∷ [] in
-      let k = s .row + (rowsIn p a + rowsIn p b + 7) - 1 in
-      let q = both a b sa sb B (s .set) (s .set + 1) s₁ (here-first rs (s .row) xs own h) in
-      let ho = here-second rs (s .row) xs own m h (omega (arith, trees-long p a b B (s .set) (s .set + 1) s₁)) in
-      let trees = and-row m (t .row - 1) (m - 1) (here-at rs m own ho 0 m (omega arith) (omega arith))
-      (first-below a b A S S s₁ m (omega arith)) (second-below a b A S S s₁ m (omega arith)) (q .first) (q .second) in
-      let split = iff-of (row-is (m + 1) x (here-at rs m own ho 1 (m + 1) (omega arith) refl)) in
-      let apart = iff-of (row-is (m + 3) y (here-at rs m own ho 3 (m + 3) (omega arith) refl)) in
-      let same = iff-of (row-is (m + 5) z (here-at rs m own ho 5 (m + 5) (omega arith) refl)) in
-      and-row k (m + 4) (m + 5) (here-at rs m own ho 6 k (omega arith) (omega arith)) (omega arith) (omega arith)
-      (and-row (m + 4) (m + 2) (m + 3) (here-at rs m own ho 4 (m + 4) (omega arith) refl) (omega arith) (omega arith)
-      (and-row (m + 2) m (m + 1) (here-at rs m own ho 2 (m + 2) (omega arith) refl) (omega arith) (omega arith) trees split) apart) same
+      let front = (AND (t .row - 1) (m - 1) ∷ also m x) ++ also (m + 2) y in
+      let last = also (m + 4) (SAME A B S) in
+      let q = both a b sa sb B (s .set) (s .set + 1) s₁ (here-first rs (s .row) xs (front ++ last) h) in
+      let ho = here-second rs (s .row) xs (front ++ last) m h (omega (arith, trees-long n a b B (s .set) (s .set + 1) s₁)) in
+      let long : length front ≡ 5 = omega (arith, length-append (AND (t .row - 1) (m - 1) ∷ also m x) (also (m + 2) y)) in
+      let e : m + 4 + 2 ≡ s .row + (rowsIn n a + rowsIn n b + 7) - 1 = omega arith in
+      row-at (m + 4 + 2) _ e
+      (also-row (m + 4) (SAME A B S) (here-second rs m front last (m + 4 + 1) ho (omega arith))
+      (split-rows a b B (s .set) (s .set + 1) s₁ _ _ _ _ _ _ m q refl (here-first rs m front last ho)) (λ q. q, λ q. q))
 
   -- the last row of each formula's rows, wherever they stand in the table
   says : (F : Form) → Says F
@@ -255,10 +270,17 @@ module _ (v p : ℕ) (ν : Assignment) (rs : List Row) where
   says (sep a b) A S s h = says-sep a b (says a) (says b) A S s h
   says (sept a b) A S s h = says-sept a b (says a) (says b) A S s h
 
--- "It satisfies the table when the last row holds."
-pub satisfies-condition : (v p : ℕ) (ν : Assignment) (F : Form) → Satisfies v ν (table p F) ↔ Condition v p ν F 0 0 1 1
-unfolding Says
-satisfies-condition v p ν F =
-    let e : after p F start .row - 1 ≡ length (table p F) - 1 = omega (arith, rows-long p F 0 0 start) in
-    subst (λ (k : ℕ). RowHolds v ν (table p F) k ↔ Condition v p ν F 0 0 1 1) e
-    (says v p ν (table p F) F 0 0 start (λ i l. ap (λ (k : ℕ). getD (table p F) k (EQ 0 0)) (omega arith)))
+-- "It satisfies the table when the last row holds.": the formula's condition, and LONG
+pub satisfies-condition : (v n p : ℕ) (ν : Assignment) (F : Form) → Satisfies v ν (table n p F) ↔ (Condition v n ν F 0 0 1 1 × NoLongPath p (modelHeap ν))
+unfolding Says Means
+satisfies-condition v n p ν F =
+    let rs = table n p F in
+    let r = rowsIn n F - 1 in
+    let xs = rowsOf n F 0 0 start in
+    let x = LONG 0 0 p in
+    let last = also r x in
+    let h : Here rs 0 (xs ++ last) = λ i l. ap (λ (k : ℕ). getD rs k (EQ 0 0)) (omega arith) in
+    let e : r + 2 ≡ length rs - 1 = omega (arith, table-long n p F, rows-some n F) in
+    subst (λ (k : ℕ). RowHolds v ν rs k ↔ (Condition v n ν F 0 0 1 1 × NoLongPath p (modelHeap ν))) e
+    (also-row v n ν rs r x (here-second rs 0 xs last (r + 1) h (omega (arith, rows-long n F 0 0 start, rows-some n F)))
+    (row-at v n ν rs (after n F start .row - 1) r (omega arith) (says v n ν rs F 0 0 start (here-first rs 0 xs last h))) (λ q. q, λ q. q))

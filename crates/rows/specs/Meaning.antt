@@ -7,9 +7,10 @@ use Prim.Native.Nat.{ℕ, zero, suc, _-_, _<_, _≤_}
 use lib.Dec.{eqb}
 use lib.ListN.{length, getD}
 use Rattle.logic.specs.Heap.{Map, Named}
-use Rattle.rows.specs.Assignment.{Set, Member, Assignment}
+use Rattle.logic.specs.Paths.{NoLongPath}
+use Rattle.rows.specs.Assignment.{Set, Member, Assignment, on}
 use Rattle.rows.specs.Row.{Row}
-use Rattle.rows.specs.Row.Row.{EQ, NE, EMPTY, ONE, AT, CHAIN, AND, OR, NOT, SPLIT, APART, SAME}
+use Rattle.rows.specs.Row.Row.{EQ, NE, EMPTY, ONE, AT, CHAIN, AND, OR, NOT, SPLIT, APART, SAME, LONG}
 
 -- "S is empty"
 abbrev pub NoMember : Set → Type 0
@@ -56,12 +57,16 @@ Apart v s A S1 S2 = (ℓ : ℕ) → WithValues A S1 ℓ → WithValues A S2 ℓ 
 abbrev pub Same : Map → Map → Set → Type 0
 Same A B S = (ℓ : ℕ) → Member S ℓ → A ℓ ≡ B ℓ
 
+-- "array A on set S has no simple path over k links"
+abbrev pub Short : Map → Set → ℕ → Type 0
+Short A S k = NoLongPath k (on A S)
+
 abbrev pub pickType : Bool → Type 0 → Type 0 → Type 0
 pickType true P Q = P
 pickType false P Q = Q
 
 module _ (v : ℕ) (ν : Assignment) where
-  -- document 01's table of rows; T r says that row r holds
+  -- document 01's table of rows, and document 02's LONG; T r says that row r holds
   unfoldable pub Means : (ℕ → Type 0) → Row → Type 0
   Means T (EQ x y) = ν .stack x ≡ ν .stack y
   Means T (NE x y) = ¬ (ν .stack x ≡ ν .stack y)
@@ -75,6 +80,7 @@ module _ (v : ℕ) (ν : Assignment) where
   Means T (SPLIT S S1 S2) = Splits (ν .set S) (ν .set S1) (ν .set S2)
   Means T (APART A S1 S2) = Apart v (ν .stack) (ν .array A) (ν .set S1) (ν .set S2)
   Means T (SAME A B S) = Same (ν .array A) (ν .array B) (ν .set S)
+  Means T (LONG A S k) = Short (ν .array A) (ν .set S) k
 
   -- row k is one of the first d and holds: "row numbers start at 0", and a row is over rows before it
   unfoldable pub HoldsBefore : List Row → ℕ → ℕ → Type 0

@@ -96,11 +96,11 @@ module _ (A : Map) (S : Set) (nil : S 0 ≡ false) where
     },
   )
 
-  -- "x and y the same and h empty; or a chain of 1 to p links"
-  pub segment-on : (n p a b : ℕ) → Heap n (on A S) → ((k : ℕ) × (k ≤ p) × Links A S a b k) ↔ Segment p a b (on A S)
-  segment-on n p a b h =
-      let c = is-chain n p a b (on A S) h in
-      let g = is-segment n p a b (on A S) h in (
+  -- "x and y the same and h empty; or a chain of" links
+  pub segment-on : (n a b : ℕ) → Heap n (on A S) → ((k : ℕ) × (k ≤ n) × Links A S a b k) ↔ Segment a b (on A S)
+  segment-on n a b h =
+      let c = is-chain n n a b (on A S) h in
+      let g = is-segment n a b (on A S) h in (
         λ q. g .to (c .from (q .0, q .1, chain-on a b (q .0) .0 (q .2))),
         λ q. let y = c .to (g .from q) in (y .0, y .1, chain-on a b (y .0) .1 (y .2)),
       )

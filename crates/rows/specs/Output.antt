@@ -12,7 +12,7 @@ use Rattle.rows.specs.Table.{table, Encodable}
 
 -- the rows of the book s
 abbrev pub bookRows : List ℕ → List Row
-bookRows s = table (pathOf s) (bookFormula s)
+bookRows s = table (locsOf s) (pathOf s) (bookFormula s)
 
 -- "The output is a book with entries kind 1 (the same bounds) and kind 3 (rows)."
 abbrev pub outBook : ℕ → ℕ → ℕ → List Row → List ℕ

@@ -1,17 +1,17 @@
 -- What the encoder's statement gives: one answer and one output, and how large an encoding is. Assumes nothing.
 use mathlib.Core.Path.{_≡_, refl, sym, ap, _∙_}
 use mathlib.Core.List.{List, [], _∷_, _++_, append-assoc}
-use Prim.Native.Nat.{ℕ, suc, _+_, _*_, _≤_}
+use Prim.Native.Nat.{ℕ, suc, _+_, _-_, _*_, _≤_}
 use native.Mathlib.Decide.{ℕ-discrete}
 use native.Mathlib.Omega.{arith}
 use lib.ListN.{length, length-append}
 use Rattle.logic.specs.declared.Answer.{Answer}
 use Rattle.logic.specs.CheckLaws.{Yes, answers-single, yes-single}
 use Rattle.logic.specs.Table.{tree}
-use Rattle.logic.specs.Book.{bookFormula, varsOf, pathOf, formulaOf, nodes, root, Whole}
+use Rattle.logic.specs.Book.{bookFormula, varsOf, locsOf, pathOf, formulaOf, nodes, root, Whole}
 use Rattle.rows.specs.Row.{Row, fieldsOf, tenBytes, bytesOf}
-use Rattle.rows.specs.Table.{start, rowsIn, arrays, sets}
-use Rattle.rows.specs.TableLaws.{rows-long}
+use Rattle.rows.specs.Table.{rowsIn, arrays, sets}
+use Rattle.rows.specs.TableLaws.{table-long}
 use Rattle.rows.specs.Bounds.{mostRows, mostBytes, mostArrays, mostSets}
 use Rattle.rows.specs.BoundsLaws as trees
 use Rattle.rows.specs.Output.{bookRows, encodingOf, encodeChecks, Encodes}
@@ -37,9 +37,9 @@ unfolding bytesOf
 bytes-long [] = refl
 bytes-long (x ∷ xs) = simp length-append (omega (arith, bytes-long xs))
 
-pub encoding-long : (s : List ℕ) → length (encodingOf s) ≡ 14 + 10 * rowsIn (pathOf s) (bookFormula s)
+pub encoding-long : (s : List ℕ) → length (encodingOf s) ≡ 14 + 10 * (rowsIn (locsOf s) (bookFormula s) + 2)
 unfolding encodingOf
-encoding-long s = omega (arith, bytes-long (bookRows s), rows-long (pathOf s) (bookFormula s) 0 0 start)
+encoding-long s = omega (arith, bytes-long (bookRows s), table-long (locsOf s) (pathOf s) (bookFormula s))
 
 -- ---- an accepted book's
 
@@ -47,14 +47,15 @@ module _ (s : List ℕ) (w : Whole s) where
   last : nodes (formulaOf s) ≡ suc (root (formulaOf s))
   last = omega (arith, w .some)
 
-  pub rows-few : rowsIn (pathOf s) (bookFormula s) ≤ mostRows
-  rows-few = trees.rows-few (varsOf s) (pathOf s) (formulaOf s) (nodes (formulaOf s)) (w .sound) (w .tree) (root (formulaOf s)) last (w .few) (w .bounds .path)
+  pub rows-few : length (bookRows s) ≤ mostRows
+  rows-few =
+      omega (arith, table-long (locsOf s) (pathOf s) (bookFormula s), trees.rows-few (varsOf s) (locsOf s) (formulaOf s) (nodes (formulaOf s)) (w .sound) (w .tree) (root (formulaOf s)) last (w .few) (w .bounds .locs))
 
   pub bytes-few : length (encodingOf s) ≤ mostBytes
-  bytes-few = omega (arith, encoding-long s, rows-few)
+  bytes-few = omega (arith, encoding-long s, table-long (locsOf s) (pathOf s) (bookFormula s), rows-few)
 
   pub arrays-few : arrays (bookFormula s) ≤ mostArrays
-  arrays-few = trees.arrays-few (varsOf s) (pathOf s) (formulaOf s) (nodes (formulaOf s)) (w .sound) (w .tree) (root (formulaOf s)) last (w .few) (w .bounds .path)
+  arrays-few = trees.arrays-few (varsOf s) (locsOf s) (formulaOf s) (nodes (formulaOf s)) (w .sound) (w .tree) (root (formulaOf s)) last (w .few) (w .bounds .locs)
 
   pub sets-few : sets (bookFormula s) ≤ mostSets
-  sets-few = trees.sets-few (varsOf s) (pathOf s) (formulaOf s) (nodes (formulaOf s)) (w .sound) (w .tree) (root (formulaOf s)) last (w .few) (w .bounds .path)
+  sets-few = trees.sets-few (varsOf s) (locsOf s) (formulaOf s) (nodes (formulaOf s)) (w .sound) (w .tree) (root (formulaOf s)) last (w .few) (w .bounds .locs)

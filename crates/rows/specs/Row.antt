@@ -1,10 +1,10 @@
--- The twelve rows, and their bytes. Assumes nothing: these are definitions.
+-- The thirteen rows, and their bytes. Assumes nothing: these are definitions.
 use mathlib.Core.List.{List, [], _∷_, _++_}
 use Prim.Native.Nat.{ℕ, _/_, _%_}
 use Rattle.rows.specs.declared.Fields.{Fields}
 
 -- "EQ x y", "NE x y"; "EMPTY S"; "ONE S x"; "AT A x y"; "CHAIN A S x y, k"; "AND, OR, NOT over row numbers"; "SPLIT S S1 S2";
--- "APART A S1 S2"; "SAME A B S". x and y are variables, S, S1 and S2 sets, A and B arrays
+-- "APART A S1 S2"; "SAME A B S"; "LONG A S k". x and y are variables, S, S1 and S2 sets, A and B arrays
 pub data Row : Type 0 where
   EQ NE : ℕ → ℕ → Row
   EMPTY : ℕ → Row
@@ -13,7 +13,7 @@ pub data Row : Type 0 where
   CHAIN : ℕ → ℕ → ℕ → ℕ → ℕ → Row
   AND OR : ℕ → ℕ → Row
   NOT : ℕ → Row
-  SPLIT APART SAME : ℕ → ℕ → ℕ → Row
+  SPLIT APART SAME LONG : ℕ → ℕ → ℕ → Row
 
 -- a row of operator o without k; "unused ones are 0"
 abbrev pub plain : ℕ → ℕ → ℕ → ℕ → Fields
@@ -33,6 +33,7 @@ fieldsOf (NOT r) = plain 9 r 0 0
 fieldsOf (SPLIT S S1 S2) = plain 10 S S1 S2
 fieldsOf (APART A S1 S2) = plain 11 A S1 S2
 fieldsOf (SAME A B S) = plain 12 A B S
+fieldsOf (LONG A S k) = record { op = 13; k = k; a = A; b = S; c = 0; d = 0 }
 
 -- "A row has ten bytes: operator, k, four two-byte operands, low first"
 abbrev pub tenBytes : Fields → List ℕ

@@ -11,18 +11,18 @@ use Rattle.rows.specs.Table.{arraysIn, setsIn, Flat, Encodable}
 use Rattle.rows.specs.Condition.{Condition}
 use Rattle.rows.specs.OnSet.{on-heap, empty-on, points-on, segment-on, splits-parts, apart-disjoint, same-on}
 
-module _ (v n p : ℕ) (ν : Assignment) (k : ValuesInRange v n ν) where
+module _ (v n : ℕ) (ν : Assignment) (k : ValuesInRange v n ν) where
   -- the truth of a formula on array A and set S
   abbrev Truth : Form → ℕ → ℕ → Type 0
-  Truth F A S = Holds v n p F (ν .stack) (on (ν .array A) (ν .set S))
+  Truth F A S = Holds v n F (ν .stack) (on (ν .array A) (ν .set S))
 
   -- a formula without operators 9 and 10 adds nothing: its condition is its truth
-  pub flat : (F : Form) (A S i j : ℕ) → Flat F → Condition v p ν F A S i j ↔ Truth F A S
+  pub flat : (F : Form) (A S i j : ℕ) → Flat F → Condition v n ν F A S i j ↔ Truth F A S
   unfolding Flat Holds Condition
   flat (same x y) A S i j c = let e = empty-on (ν .array A) (ν .set S) in (λ q. (q .0, e .0 (q .1)), λ q. (q .0, e .1 (q .1)))
   flat (diff x y) A S i j c = let e = empty-on (ν .array A) (ν .set S) in (λ q. (q .0, e .0 (q .1)), λ q. (q .0, e .1 (q .1)))
   flat (pts x y) A S i j c = points-on (ν .array A) (ν .set S) (k .nil S) (ν .stack x) (ν .stack y)
-  flat (ls x y) A S i j c = segment-on (ν .array A) (ν .set S) (k .nil S) n p (ν .stack x) (ν .stack y) (on-heap v n ν A S k)
+  flat (ls x y) A S i j c = segment-on (ν .array A) (ν .set S) (k .nil S) n (ν .stack x) (ν .stack y) (on-heap v n ν A S k)
   flat (conj a b) A S i j c =
       let f = flat a A S i j (c .0) in
       let g = flat b A S (i + arraysIn a) (j + setsIn a) (c .1) in
@@ -39,7 +39,7 @@ module _ (v n p : ℕ) (ν : Assignment) (k : ValuesInRange v n ν) where
   flat (sep a b) A S i j c = absurd c
   flat (sept a b) A S i j c = absurd c
 
-  pub sound : (F : Form) (A S i j : ℕ) → Encodable F → Condition v p ν F A S i j → Truth F A S
+  pub sound : (F : Form) (A S i j : ℕ) → Encodable F → Condition v n ν F A S i j → Truth F A S
   unfolding Encodable Holds Condition
   sound (same x y) A S i j c q = flat (same x y) A S i j (unfold Flat in tt) .0 (unfold Condition in q)
   sound (diff x y) A S i j c q = flat (diff x y) A S i j (unfold Flat in tt) .0 (unfold Condition in q)

@@ -33,8 +33,8 @@ pub agree-trans : {i j : ℕ} {ν μ κ : Assignment} → Agree i j ν μ → Ag
 agree-trans g h = record { stack = g .stack ∙ h .stack; array = λ k l. g .array k l ∙ h .array k l; set = λ k l. g .set k l ∙ h .set k l }
 
 -- what a condition over array A and set S says under ν it says under each μ that agrees with ν so far
-module _ (v p : ℕ) where
-  pub condition-kept : (F : Form) (ν μ : Assignment) (A S i j : ℕ) → A < i → S < j → Agree (i + arraysIn F) (j + setsIn F) ν μ → Condition v p ν F A S i j → Condition v p μ F A S i j
+module _ (v n : ℕ) where
+  pub condition-kept : (F : Form) (ν μ : Assignment) (A S i j : ℕ) → A < i → S < j → Agree (i + arraysIn F) (j + setsIn F) ν μ → Condition v n ν F A S i j → Condition v n μ F A S i j
   unfolding Condition arraysIn setsIn
   condition-kept (same x y) ν μ A S i j a b g q = rw (← (g .stack), ← (g .set S (omega arith))) q
   condition-kept (diff x y) ν μ A S i j a b g q = rw (← (g .stack), ← (g .set S (omega arith))) q

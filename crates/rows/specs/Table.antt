@@ -6,7 +6,7 @@ use Rattle.logic.specs.Formula.{Form}
 use Rattle.logic.specs.Formula.Form.{same, diff, pts, ls, conj, disj, but, neg, sep, sept}
 use Rattle.rows.specs.declared.Next.{Next}
 use Rattle.rows.specs.Row.{Row}
-use Rattle.rows.specs.Row.Row.{EQ, NE, EMPTY, ONE, AT, CHAIN, AND, OR, NOT, SPLIT, APART, SAME}
+use Rattle.rows.specs.Row.Row.{EQ, NE, EMPTY, ONE, AT, CHAIN, AND, OR, NOT, SPLIT, APART, SAME, LONG}
 
 -- how many new arrays and sets a formula has: "Operator 9 makes S1, S2", "Operator 10 makes array B and S1, S2"
 unfoldable pub arraysIn : Form → ℕ
@@ -64,15 +64,18 @@ ors r q (suc m) = ors r q m ++ (OR (soFar r q m) (r + m + 1) ∷ [])
 abbrev pub pairRows : ℕ → Row → Row → List Row
 pairRows r x y = x ∷ y ∷ AND r (r + 1) ∷ []
 
+-- "Each AND takes the result so far first": the row after r, which is the result so far, and their AND
+abbrev pub also : ℕ → Row → List Row
+also r x = x ∷ AND r (r + 1) ∷ []
+
 -- own rows of operator 9, from row m on: "AND of the children, SPLIT S S1 S2, AND, APART A S1 S2, AND". l is the row after a's
 abbrev pub sepRows : ℕ → ℕ → ℕ → ℕ → ℕ → ℕ → List Row
-sepRows A S S1 S2 l m =
-    AND (l - 1) (m - 1) ∷ SPLIT S S1 S2 ∷ AND m (m + 1) ∷ APART A S1 S2 ∷ AND (m + 2) (m + 3) ∷ []
+sepRows A S S1 S2 l m = (AND (l - 1) (m - 1) ∷ also m (SPLIT S S1 S2)) ++ also (m + 2) (APART A S1 S2)
 
 -- own rows of operator 10: "AND of the children, SPLIT S2 S1 S, AND, APART B S1 S, AND, SAME A B S, AND"
 abbrev pub septRows : ℕ → ℕ → ℕ → ℕ → ℕ → ℕ → ℕ → List Row
 septRows A B S S1 S2 l m =
-    AND (l - 1) (m - 1) ∷ SPLIT S2 S1 S ∷ AND m (m + 1) ∷ APART B S1 S ∷ AND (m + 2) (m + 3) ∷ SAME A B S ∷ AND (m + 4) (m + 5) ∷ []
+    ((AND (l - 1) (m - 1) ∷ also m (SPLIT S2 S1 S)) ++ also (m + 2) (APART B S1 S)) ++ also (m + 4) (SAME A B S)
 
 -- "Allowed: no operator 9 or 10 below operator 8 or in the b side of operator 7": neither of them in a formula, and in none of
 -- those places of a formula
@@ -100,14 +103,14 @@ Encodable (neg a) = Flat a
 Encodable (sep a b) = Encodable a × Encodable b
 Encodable (sept a b) = Encodable a × Encodable b
 
--- p is the path bound
-module _ (p : ℕ) where
+-- n is the number of locations: no list segment has more links
+module _ (n : ℕ) where
   -- how many rows a formula has
   unfoldable pub rowsIn : Form → ℕ
   rowsIn (same x y) = 3
   rowsIn (diff x y) = 3
   rowsIn (pts x y) = 3
-  rowsIn (ls x y) = p + 1 + p
+  rowsIn (ls x y) = n + 1 + n
   rowsIn (conj a b) = rowsIn a + rowsIn b + 1
   rowsIn (disj a b) = rowsIn a + rowsIn b + 1
   rowsIn (but a b) = rowsIn a + rowsIn b + 2
@@ -122,14 +125,14 @@ module _ (p : ℕ) where
 
   -- "Rows come a's tree, b's tree, own rows": the rows of a formula over array A and set S, where s has the numbers of what is
   -- new. The last row of a tree is the one before the next. "= gives EQ, EMPTY, AND; ≠ gives NE, EMPTY, AND; ↦ gives ONE, AT,
-  -- AND; ls gives CHAIN 0 to p, then p ORs joining left to right. Operators 5, 6, 8 give one row; 7 gives NOT of b's last row,
+  -- AND; ls gets CHAIN 0 to n, then n ORs joining left to right. Operators 5, 6, 8 give one row; 7 gives NOT of b's last row,
   -- then AND. Operator 9 makes S1, S2 for its children over A .. Operator 10 makes array B and S1, S2 over B .. Each AND takes
   -- the result so far first."
   unfoldable pub rowsOf : Form → ℕ → ℕ → Next → List Row
   rowsOf (same x y) A S s = pairRows (s .row) (EQ x y) (EMPTY S)
   rowsOf (diff x y) A S s = pairRows (s .row) (NE x y) (EMPTY S)
   rowsOf (pts x y) A S s = pairRows (s .row) (ONE S x) (AT A x y)
-  rowsOf (ls x y) A S s = chains A S x y (p + 1) ++ ors (s .row) (s .row + (p + 1)) p
+  rowsOf (ls x y) A S s = chains A S x y (n + 1) ++ ors (s .row) (s .row + (n + 1)) n
   rowsOf (conj a b) A S s =
       let t = after a s in
       let u = after b t in
@@ -162,8 +165,9 @@ abbrev pub start : Next
 start = record { row = 0; array = 1; set = 1 }
 
 -- the rows of a whole formula, and how many arrays and sets they are over
-abbrev pub table : ℕ → Form → List Row
-table p F = rowsOf p F 0 0 start
+-- "the last two rows are LONG over array 0 and set 0 with p, and an AND"
+abbrev pub table : ℕ → ℕ → Form → List Row
+table n p F = rowsOf n F 0 0 start ++ also (rowsIn n F - 1) (LONG 0 0 p)
 
 abbrev pub arrays : Form → ℕ
 arrays F = 1 + arraysIn F

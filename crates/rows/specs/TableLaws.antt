@@ -12,7 +12,7 @@ use Rattle.logic.specs.Formula.Form.{same, diff, pts, ls, conj, disj, but, neg,
 use Rattle.rows.specs.declared.Next.{Next}
 use Rattle.rows.specs.Row.{Row}
 use Rattle.rows.specs.Row.Row.{EQ, CHAIN, OR}
-use Rattle.rows.specs.Table.{twoSets, arrayAndSets, after, chains, ors, soFar, rowsIn, rowsOf}
+use Rattle.rows.specs.Table.{twoSets, arrayAndSets, after, chains, ors, soFar, rowsIn, rowsOf, start, table}
 
 pub chains-long : (A S x y k : ℕ) → length (chains A S x y k) ≡ k
 unfolding chains
@@ -41,8 +41,8 @@ ors-at r q (suc m) i l =
     (λ (z : i < m). List·getD-append (ors r q m) (OR (soFar r q m) (r + m + 1) ∷ []) (EQ 0 0) i (omega (arith, ors-long r q m)) ∙ ors-at r q m i z)
     (eq-or-lt-of-le (le-of-suc-le-suc l))
 
-module _ (p : ℕ) where
-  pub rows-some : (F : Form) → 0 < rowsIn p F
+module _ (n : ℕ) where
+  pub rows-some : (F : Form) → 0 < rowsIn n F
   unfolding rowsIn
   rows-some (same x y) = omega arith
   rows-some (diff x y) = omega arith
@@ -57,7 +57,7 @@ module _ (p : ℕ) where
 
   -- what is to be shown of a formula
   abbrev pub Long : Form → Type 0
-  Long F = (A S : ℕ) (s : Next) → length (rowsOf p F A S s) ≡ rowsIn p F
+  Long F = (A S : ℕ) (s : Next) → length (rowsOf n F A S s) ≡ rowsIn n F
 
   pub rows-long : (F : Form) → Long F
   unfolding rowsOf rowsIn
@@ -65,19 +65,23 @@ module _ (p : ℕ) where
   rows-long (diff x y) A S s = refl
   rows-long (pts x y) A S s = refl
   rows-long (ls x y) A S s =
-      simp length-append (omega (arith, chains-long A S x y (p + 1), ors-long (s .row) (s .row + (p + 1)) p))
-  rows-long (conj a b) A S s = simp length-append (omega (arith, rows-long a A S s, rows-long b A S (after p a s)))
-  rows-long (disj a b) A S s = simp length-append (omega (arith, rows-long a A S s, rows-long b A S (after p a s)))
-  rows-long (but a b) A S s = simp length-append (omega (arith, rows-long a A S s, rows-long b A S (after p a s)))
+      simp length-append (omega (arith, chains-long A S x y (n + 1), ors-long (s .row) (s .row + (n + 1)) n))
+  rows-long (conj a b) A S s = simp length-append (omega (arith, rows-long a A S s, rows-long b A S (after n a s)))
+  rows-long (disj a b) A S s = simp length-append (omega (arith, rows-long a A S s, rows-long b A S (after n a s)))
+  rows-long (but a b) A S s = simp length-append (omega (arith, rows-long a A S s, rows-long b A S (after n a s)))
   rows-long (neg a) A S s = simp length-append (omega (arith, rows-long a A S s))
   rows-long (sep a b) A S s =
-      simp length-append (omega (arith, rows-long a A (s .set) (twoSets s), rows-long b A (s .set + 1) (after p a (twoSets s))))
+      simp length-append (omega (arith, rows-long a A (s .set) (twoSets s), rows-long b A (s .set + 1) (after n a (twoSets s))))
   rows-long (sept a b) A S s =
-      simp length-append (omega (arith, rows-long a (s .array) (s .set) (arrayAndSets s), rows-long b (s .array) (s .set + 1) (after p a (arrayAndSets s))))
+      simp length-append (omega (arith, rows-long a (s .array) (s .set) (arrayAndSets s), rows-long b (s .array) (s .set + 1) (after n a (arrayAndSets s))))
 
   -- two trees over array A
-  pub trees-long : (a b : Form) (A S T : ℕ) (s : Next) → length (rowsOf p a A S s ++ rowsOf p b A T (after p a s)) ≡ rowsIn p a + rowsIn p b
-  trees-long a b A S T s = simp length-append (omega (arith, rows-long a A S s, rows-long b A T (after p a s)))
+  pub trees-long : (a b : Form) (A S T : ℕ) (s : Next) → length (rowsOf n a A S s ++ rowsOf n b A T (after n a s)) ≡ rowsIn n a + rowsIn n b
+  trees-long a b A S T s = simp length-append (omega (arith, rows-long a A S s, rows-long b A T (after n a s)))
+
+-- a whole table: the formula's rows, LONG and its AND
+pub table-long : (n p : ℕ) (F : Form) → length (table n p F) ≡ rowsIn n F + 2
+table-long n p F = simp length-append (omega (arith, rows-long n F 0 0 start))
 
 -- rows xs stand in the table rs from row r on
 abbrev pub Here : List Row → ℕ → List Row → Type 0

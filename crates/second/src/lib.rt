@@ -168,7 +168,7 @@ fn strongly_disjoint(g: u8, h: u8, w: World) -> bool {
 }
 
 // Whether the heap h is in node k's set.
-pub fn member(sets: &Sets, k: usize, h: usize) -> bool {
+fn member(sets: &Sets, k: usize, h: usize) -> bool {
     if NODES <= k {
         return false;
     }
@@ -210,16 +210,60 @@ fn step(t: Walk, h: u8, base: u8, y: u8) -> Walk {
     }
 }
 
-// A chain of at most p links from x to y, and nothing besides. The walk stays at y when it first gets there, so no location
-// is met twice.
+// A chain from x to y, and nothing besides: over three locations it has at most three links. The walk stays at y when it first
+// gets there, so no location is met twice.
 fn is_list(x: u8, y: u8, h: u8, w: World) -> bool {
     let base = w.heap_base;
-    let path = w.path;
+    let links: u8 = 3;
     let mut t = Walk { at: x, left: 0 };
-    for _ in 0..path {
+    for _ in 0..links {
         t = step(t, h, base, y);
     }
     t.at == y && t.left == allocated(h, base)
+}
+
+// A path along a heap: where it ends, the locations on it, and whether it had a link to go on at every step.
+struct Path {
+    at: u8,
+    met: u8,
+    whole: bool,
+}
+
+// One link on, to a location that is not on the path.
+fn follow(t: Path, h: u8, base: u8) -> Path {
+    let d = digit(h, base, t.at);
+    if d == 0 {
+        return Path {
+            at: t.at,
+            met: t.met,
+            whole: false,
+        };
+    }
+    Path {
+        at: d - 1,
+        met: t.met | bit(d - 1),
+        whole: t.whole && t.met & bit(d - 1) == 0,
+    }
+}
+
+// Whether a path of p + 1 links starts at l.
+fn is_long_from(l: u8, h: u8, w: World) -> bool {
+    let base = w.heap_base;
+    let path = w.path;
+    let mut t = Path {
+        at: l,
+        met: bit(l),
+        whole: true,
+    };
+    for _ in 0..=path {
+        t = follow(t, h, base);
+    }
+    t.whole
+}
+
+// Whether no path has more than p links.
+fn is_short(h: u8, w: World) -> bool {
+    !is_long_from(1, h, w) && !is_long_from(2, h, w) && !is_long_from(3, h, w)
 }
 
 fn atom_fits(op: u8, x: u8, y: u8, h: u8, w: World) -> bool {
@@ -316,6 +360,11 @@ pub fn fill(sets: &mut Sets, f: &[u8], w: World) {
         i += 3;
         k += 1;
     }
+}
+
+// Whether the heap h, as a model's, fits node k: it is in the node's set, and no path is too long.
+pub fn fits(sets: &Sets, k: usize, h: u8, w: World) -> bool {
+    member(sets, k, wide(h)) && is_short(h, w)
 }
 
 // Byte i of the model with this stack and heap, v variables and n locations; 0 behind its end.

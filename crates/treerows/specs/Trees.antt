@@ -10,12 +10,12 @@ use Rattle.rows.specs.Table.{arraysIn, setsIn, after, rowsIn, rowsOf}
 use Rattle.rowbytes.specs.Written.{Puts, Space}
 
 -- the rows of a and of b, over one array and two sets, were added; l is the row after a's
-pub record Trees (p : ℕ) (a b : Form) (A S T : ℕ) (s : Next) (l : ℕ) (t : Next) (o now : List ℕ) : Type 0 where
-  pub first : l ≡ s .row + rowsIn p a
-  pub puts : Puts s (rowsIn p a + rowsIn p b) (arraysIn a + arraysIn b) (setsIn a + setsIn b) (bytesOf (rowsOf p a A S s ++ rowsOf p b A T (after p a s))) t o now
+pub record Trees (n : ℕ) (a b : Form) (A S T : ℕ) (s : Next) (l : ℕ) (t : Next) (o now : List ℕ) : Type 0 where
+  pub first : l ≡ s .row + rowsIn n a
+  pub puts : Puts s (rowsIn n a + rowsIn n b) (arraysIn a + arraysIn b) (setsIn a + setsIn b) (bytesOf (rowsOf n a A S s ++ rowsOf n b A T (after n a s))) t o now
 
 -- room for the rows of a and of b, and r more
-pub record RoomTrees (p : ℕ) (a b : Form) (s : Next) (r : ℕ) (o : List ℕ) : Type 0 where
-  pub space : Space s (rowsIn p a + rowsIn p b + r) o
+pub record RoomTrees (n : ℕ) (a b : Form) (s : Next) (r : ℕ) (o : List ℕ) : Type 0 where
+  pub space : Space s (rowsIn n a + rowsIn n b + r) o
   pub array : s .array + (arraysIn a + arraysIn b) < 65536
   pub set : s .set + (setsIn a + setsIn b) < 65536

@@ -22,16 +22,16 @@ pub struct Trees {
 }
 
 // Writes the rows of node k over array a and set s.
-pub fn node(out: &mut [u8], f: &[u8], p: u8, k: usize, a: u16, s: u16, st: Next) -> Next
-    requires { ⌜ (k < nodes (now f)) × (p < 255) × KnownTable (now f) × Room p (tree (now f) k) st (now out) ⌝ }
-    ensures { λ r. ⌜ Encoded p (tree (now (f .entry)) k) a s st r (now (out .entry)) (now (out .exit)) ⌝ }
+pub fn node(out: &mut [u8], f: &[u8], n: u8, k: usize, a: u16, s: u16, st: Next) -> Next
+    requires { ⌜ (k < nodes (now f)) × (n < 255) × KnownTable (now f) × Room n (tree (now f) k) st (now out) ⌝ }
+    ensures { λ r. ⌜ Encoded n (tree (now (f .entry)) k) a s st r (now (out .entry)) (now (out .exit)) ⌝ }
 {
     let op = f[3 * k];
     let x = f[3 * k + 1];
     let y = f[3 * k + 2];
     match op {
-        1..=4 => put_atom(out, op, short(x), short(y), p, a, s, st),
-        5..=10 => join(out, f, p, k, op, wide(x), wide(y), a, s, st),
+        1..=4 => put_atom(out, op, short(x), short(y), n, a, s, st),
+        5..=10 => join(out, f, n, k, op, wide(x), wide(y), a, s, st),
         _ => st,
     }
 }
@@ -40,7 +40,7 @@ pub fn node(out: &mut [u8], f: &[u8], p: u8, k: usize, a: u16, s: u16, st: Next)
 fn join(
     out: &mut [u8],
     f: &[u8],
-    p: u8,
+    n: u8,
     k: usize,
     op: u8,
     x: usize,
@@ -49,24 +49,24 @@ fn join(
     s: u16,
     st: Next,
 ) -> Next
-    requires { ⌜ (k < nodes (now f)) × (x < k) × (y < k) × (5 ≤ op) × (op ≤ 10) × (p < 255) × KnownTable (now f) × Room p (joinOf op (tree (now f) x) (tree (now f) y)) st (now out) ⌝ }
-    ensures { λ r. ⌜ Encoded p (joinOf op (tree (now (f .entry)) x) (tree (now (f .entry)) y)) a s st r (now (out .entry)) (now (out .exit)) ⌝ }
+    requires { ⌜ (k < nodes (now f)) × (x < k) × (y < k) × (5 ≤ op) × (op ≤ 10) × (n < 255) × KnownTable (now f) × Room n (joinOf op (tree (now f) x) (tree (now f) y)) st (now out) ⌝ }
+    ensures { λ r. ⌜ Encoded n (joinOf op (tree (now (f .entry)) x) (tree (now (f .entry)) y)) a s st r (now (out .entry)) (now (out .exit)) ⌝ }
 {
     match op {
         5 => {
-            let t = both(out, f, p, k, x, y, a, s, s, st);
+            let t = both(out, f, n, k, x, y, a, s, s, st);
             put_and(out, t.next, t.first - 1, t.next.row - 1)
         }
         6 => {
-            let t = both(out, f, p, k, x, y, a, s, s, st);
+            let t = both(out, f, n, k, x, y, a, s, s, st);
             put_or(out, t.next, t.first - 1, t.next.row - 1)
         }
         7 => {
-            let t = both(out, f, p, k, x, y, a, s, s, st);
+            let t = both(out, f, n, k, x, y, a, s, s, st);
             put_but(out, t.next, t.first)
         }
         8 => {
-            let t = node(out, f, p, x, a, s, st);
+            let t = node(out, f, n, x, a, s, st);
             put_not(out, t, t.row - 1)
         }
         9 => {
@@ -76,7 +76,7 @@ fn join(
                 array: st.array,
                 set: i + 2,
             };
-            let t = both(out, f, p, k, x, y, a, i, i + 1, new);
+            let t = both(out, f, n, k, x, y, a, i, i + 1, new);
             put_sep(out, t.next, t.first, a, s, i)
         }
         _ => {
@@ -87,7 +87,7 @@ fn join(
                 array: b + 1,
                 set: i + 2,
             };
-            let t = both(out, f, p, k, x, y, b, i, i + 1, new);
+            let t = both(out, f, n, k, x, y, b, i, i + 1, new);
             put_sept(out, t.next, t.first, a, b, s, i)
         }
     }
@@ -97,7 +97,7 @@ fn join(
 fn both(
     out: &mut [u8],
     f: &[u8],
-    p: u8,
+    n: u8,
     k: usize,
     x: usize,
     y: usize,
@@ -106,10 +106,10 @@ fn both(
     t: u16,
     st: Next,
 ) -> Trees
-    requires { ⌜ (k < nodes (now f)) × (x < k) × (y < k) × (p < 255) × KnownTable (now f) × RoomTrees p (tree (now f) x) (tree (now f) y) st 0 (now out) ⌝ }
-    ensures { λ r. ⌜ TreesPut p (tree (now (f .entry)) x) (tree (now (f .entry)) y) a s t st (r .first) (r .next) (now (out .entry)) (now (out .exit)) ⌝ }
+    requires { ⌜ (k < nodes (now f)) × (x < k) × (y < k) × (n < 255) × KnownTable (now f) × RoomTrees n (tree (now f) x) (tree (now f) y) st 0 (now out) ⌝ }
+    ensures { λ r. ⌜ TreesPut n (tree (now (f .entry)) x) (tree (now (f .entry)) y) a s t st (r .first) (r .next) (now (out .entry)) (now (out .exit)) ⌝ }
 {
-    let u = node(out, f, p, x, a, s, st);
-    let next = node(out, f, p, y, a, t, u);
+    let u = node(out, f, n, x, a, s, st);
+    let next = node(out, f, n, y, a, t, u);
     Trees { first: u.row, next }
 }

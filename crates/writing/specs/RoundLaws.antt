@@ -15,10 +15,10 @@ use Rattle.grammar.specs.Says.{Says}
 use Rattle.grammar.specs.SaysLaws.{Iff, sure, whole-heap, says-holds}
 use Rattle.writing.specs.Writing.{variable, phraseOf}
 
-iff-self : (A : Type 0) → Iff A A
+pub iff-self : (A : Type 0) → Iff A A
 iff-self A = record { to = λ a. a; from = λ a. a }
 
-iff-both : (A B C D : Type 0) → Iff A B → Iff C D → Iff (A × C) (B × D)
+pub iff-both : (A B C D : Type 0) → Iff A B → Iff C D → Iff (A × C) (B × D)
 iff-both A B C D f g = record { to = λ q. (f .to (q .0), g .to (q .1)); from = λ q. (f .from (q .0), g .from (q .1)) }
 
 iff-either : (A B C D : Type 0) → Iff A B → Iff C D → Iff (A ⊎ C) (B ⊎ D)
@@ -36,7 +36,7 @@ iff-at P a b c d e f =
     }
 
 -- two stacks with the same named locations, and with the same location for each variable of s and its name's variable of t
-module _ (v n p : ℕ) (s t : Map) (ν : Term → ℕ) (low : (x : ℕ) → s x ≤ n) (match : (x : ℕ) → x ≤ v → t (ν (variable x)) ≡ s x)
+module _ (v n : ℕ) (s t : Map) (ν : Term → ℕ) (low : (x : ℕ) → s x ≤ n) (match : (x : ℕ) → x ≤ v → t (ν (variable x)) ≡ s x)
     (there : (ℓ : ℕ) → Named v s ℓ → Named v t ℓ) (back : (ℓ : ℕ) → Named v t ℓ → Named v s ℓ) where
   apart-there : (g h : Map) → StronglyDisjoint v s g h → StronglyDisjoint v t g h
   apart-there g h d = record { alone = d .alone; named = λ ℓ a b. there ℓ (d .named ℓ a b) }
@@ -49,9 +49,9 @@ module _ (v n p : ℕ) (s t : Map) (ν : Term → ℕ) (low : (x : ℕ) → s x 
   at-names P x y w = iff-at P (t (ν (variable x))) (t (ν (variable y))) (s x) (s y) (match x (w .0)) (match y (w .1))
 
   abbrev Same : Form → Type 0
-  Same F = (h : Map) → Heap n h → Iff (Says v n p ν t (phraseOf F) h) (Holds v n p F s h)
+  Same F = (h : Map) → Heap n h → Iff (Says v n ν t (phraseOf F) h) (Holds v n F s h)
 
-  same-parts : (a b : Form) → Same a → Same b → (h : Map) → Heap n h → Iff (Says v n p ν t (join sep-word (phraseOf a) (phraseOf b)) h) (Holds v n p (sep a b) s h)
+  same-parts : (a b : Form) → Same a → Same b → (h : Map) → Heap n h → Iff (Says v n ν t (join sep-word (phraseOf a) (phraseOf b)) h) (Holds v n (sep a b) s h)
   unfolding Holds Says
   same-parts a b f g h k =
       record {
@@ -60,7 +60,7 @@ module _ (v n p : ℕ) (s t : Map) (ν : Term → ℕ) (low : (x : ℕ) → s x 
       }
 
   -- a wand to a denial says that no added heap serves a septraction
-  no-added : (a b : Form) → Same a → Same b → (h : Map) → Heap n h → Iff (Says v n p ν t (join wand-word (phraseOf a) (deny (phraseOf b))) h) (¬ Holds v n p (sept a b) s h)
+  no-added : (a b : Form) → Same a → Same b → (h : Map) → Heap n h → Iff (Says v n ν t (join wand-word (phraseOf a) (deny (phraseOf b))) h) (¬ Holds v n (sept a b) s h)
   unfolding Holds Says
   no-added a b f g h k =
       record {
@@ -71,16 +71,16 @@ module _ (v n p : ℕ) (s t : Map) (ν : Term → ℕ) (low : (x : ℕ) → s x 
       }
 
   -- so its denial says that one does
-  some-added : (F : Form) (h : Map) (A : Type 0) → Heap n h → Iff A (¬ Holds v n p F s h) → Iff (¬ A) (Holds v n p F s h)
-  some-added F h A k f = record { to = λ q. ⊎-elim (λ y. y) (λ z. absurd (q (f .from z))) (sure v n p s low F h k); from = λ q a. f .to a q }
+  some-added : (F : Form) (h : Map) (A : Type 0) → Heap n h → Iff A (¬ Holds v n F s h) → Iff (¬ A) (Holds v n F s h)
+  some-added F h A k f = record { to = λ q. ⊎-elim (λ y. y) (λ z. absurd (q (f .from z))) (sure v n s low F h k); from = λ q a. f .to a q }
 
   -- the text says so exactly where the formula that was written holds
-  pub round-says : (F : Form) → Within v F → (h : Map) → Heap n h → Iff (Says v n p ν t (phraseOf F) h) (Holds v n p F s h)
+  pub round-says : (F : Form) → Within v F → (h : Map) → Heap n h → Iff (Says v n ν t (phraseOf F) h) (Holds v n F s h)
   unfolding Holds Says phraseOf Within
   round-says (same x y) w h k = iff-both _ _ _ _ (at-names (λ a b. a ≡ b) x y w) (iff-self (Empty h))
   round-says (diff x y) w h k = iff-both _ _ _ _ (at-names (λ a b. ¬ (a ≡ b)) x y w) (iff-self (Empty h))
   round-says (pts x y) w h k = at-names (λ a b. Points a b h) x y w
-  round-says (ls x y) w h k = at-names (λ a b. Segment p a b h) x y w
+  round-says (ls x y) w h k = at-names (λ a b. Segment a b h) x y w
   round-says (conj a b) w h k = iff-both _ _ _ _ (round-says a (w .0) h k) (round-says b (w .1) h k)
   round-says (disj a b) w h k = iff-either _ _ _ _ (round-says a (w .0) h k) (round-says b (w .1) h k)
   round-says (but a b) w h k = iff-both _ _ _ _ (round-says a (w .0) h k) (iff-not _ _ (round-says b (w .1) h k))
@@ -89,8 +89,8 @@ module _ (v n p : ℕ) (s t : Map) (ν : Term → ℕ) (low : (x : ℕ) → s x 
   round-says (sept a b) w h k = some-added (sept a b) h _ k (no-added a b (round-says a (w .0)) (round-says b (w .1)) h k)
 
   -- and the formula that is read holds exactly there
-  pub round : ((x : ℕ) → t x ≤ n) → (F : Form) → Within v F → (h : Map) → Heap n h → Iff (Holds v n p (formOf ν (phraseOf F)) t h) (Holds v n p F s h)
+  pub round : ((x : ℕ) → t x ≤ n) → (F : Form) → Within v F → (h : Map) → Heap n h → Iff (Holds v n (formOf ν (phraseOf F)) t h) (Holds v n F s h)
   round low′ F w h k =
-      let a = says-holds v n p ν t low′ (phraseOf F) h k in
+      let a = says-holds v n ν t low′ (phraseOf F) h k in
       let b = round-says F w h k in
       record { to = λ q. b .to (a .from q); from = λ q. a .to (b .from q) }

@@ -8,6 +8,7 @@ use lib.ListN.{length}
 use Rattle.logic.specs.Heap.{Map, Named}
 use Rattle.logic.specs.Book.{varsOf, locsOf, pathOf, bookFormula, Accepted, Whole}
 use Rattle.logic.specs.BookLaws.{accepted-whole}
+use Rattle.logic.specs.Paths.{NoLongPath}
 use Rattle.logic.specs.Model.{stackIn, heapIn, Fits, FitsBook}
 use Rattle.logic.specs.ModelLaws.{model-stack, model-heap}
 use Rattle.grammar.specs.Meaning.{namesOf, numberOf, meaning}
@@ -22,7 +23,7 @@ use Rattle.writing.specs.TreeLaws.{formula-within, formula-names}
 use Rattle.writing.specs.TermLaws.{text-plain}
 use Rattle.writing.specs.NumberLaws.{names-long, number-low, number-onto}
 use Rattle.writing.specs.LimitLaws.{within-limits}
-use Rattle.writing.specs.RoundLaws.{round}
+use Rattle.writing.specs.RoundLaws.{iff-self, iff-both, round}
 use Rattle.writing.specs.Matching.{phraseIn, bookAgain, renumbered, AllNamed, FitsText, ModelOf, Matched}
 
 module _ (s : List ℕ) (accepted : Accepted s) where
@@ -68,8 +69,10 @@ module _ (s : List ℕ) (accepted : Accepted s) where
 
       same-truth : Iff (Fits (varsOf s) (locsOf s) (pathOf s) (meaning (phraseIn s)) T (heapIn (varsOf s) (locsOf s) m)) (FitsBook s m)
       same-truth =
-          round (varsOf s) (locsOf s) (pathOf s) S T (numberOf (namesOf (phraseIn s))) (model-stack (varsOf s) (locsOf s) m ok .low) (q .stack) named-there named-back
-          (model-stack (varsOf s) (locsOf s) m′ ok′ .low) (bookFormula s) (formula-within s accepted) (heapIn (varsOf s) (locsOf s) m) (model-heap (varsOf s) (locsOf s) m ok)
+          iff-both _ _ _ _
+          (round (varsOf s) (locsOf s) S T (numberOf (namesOf (phraseIn s))) (model-stack (varsOf s) (locsOf s) m ok .low) (q .stack) named-there named-back
+          (model-stack (varsOf s) (locsOf s) m′ ok′ .low) (bookFormula s) (formula-within s accepted) (heapIn (varsOf s) (locsOf s) m) (model-heap (varsOf s) (locsOf s) m ok))
+          (iff-self (NoLongPath (pathOf s) (heapIn (varsOf s) (locsOf s) m)))
 
       same-models : FitsText s → Iff (FitsBook s m) (FitsBook (bookAgain s) m′)
       same-models fits =

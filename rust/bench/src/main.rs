@@ -177,7 +177,7 @@ fn encoded() {
     );
     for (name, nodes) in FORMULAS {
         let book = book(BOUNDS, nodes);
-        if second::encode::encode(&book, &mut [0; 6354]).number == 0 {
+        if second::encode::encode(&book, &mut [0; hollyspool::MOST_ENCODED]).number == 0 {
             compare_calls(
                 name,
                 "encode",
@@ -202,7 +202,7 @@ fn compare_calls(
     proved: impl Fn(&mut [u8]) -> u64,
     second: impl Fn(&mut [u8]) -> u64,
 ) {
-    let mut out = [0; 6354];
+    let mut out = [0; hollyspool::MOST_ENCODED];
     let mut fastest = [f64::INFINITY; 2];
     for _ in 0..20 * RUNS {
         let [first, other] = [call_time(&mut out, &proved), call_time(&mut out, &second)];

@@ -51,11 +51,14 @@ impl Books {
     }
 }
 
-/// A book that is accepted, at bounds that are small more often than not. Most name every variable:
-/// the search refuses the others.
+/// A book that is accepted, at bounds that are small more often than not, p below n in half of them.
+/// Most name every variable: the search refuses the others.
 fn made(random: &mut Random) -> Vec<u8> {
     let most = random.one_of(&[1, 2, 2, 3, 3, MOST as u8]);
     let mut bounds = [(); 3].map(|()| random.up_to(most));
+    if bounds[1] > 0 && random.below(2) == 0 {
+        bounds[2] = random.up_to(bounds[1] - 1);
+    }
     let most_nodes = random.one_of(&[3, 8, 8, 16, MOST_NODES]);
     let count = 1 + random.below(most_nodes);
     let mut nodes = tree(random, bounds[0], count, &OPERATORS);

@@ -7,7 +7,7 @@ pub struct Bounds {
     pub v: u8,
     /// Locations are 0 to n; location 0 is nil's.
     pub n: u8,
-    /// The most links that a list has.
+    /// The most links that a simple path along a model's cells has, all its locations different.
     pub p: u8,
 }
 

@@ -4,7 +4,7 @@ use crate::answer::Answer;
 use crate::ffi;
 
 /// The most bytes that an encoding has; an output of this length is never too short for one.
-pub const MOST_ENCODED: usize = 6354;
+pub const MOST_ENCODED: usize = 6374;
 
 /// The most bytes that a book has; an output of this length is never too short for an import.
 pub const MOST_BOOK: usize = 206;

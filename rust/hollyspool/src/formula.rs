@@ -22,7 +22,7 @@ pub enum Formula {
     Differ(u8, u8),
     /// 3, x ↦ y: the heap is one cell, at x, and holds y's location.
     Points(u8, u8),
-    /// 4, ls(x, y): the heap is a list of at most p links from x to y.
+    /// 4, ls(x, y): the heap is a list from x to y.
     List(u8, u8),
     /// 5, a ∧ b: both hold.
     And(Box<Formula>, Box<Formula>),

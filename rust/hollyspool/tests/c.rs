@@ -24,8 +24,9 @@ search: number 0 place 0 tried 6
 model: 01 01
 judge: number 0 place 0 tried 0
 encode: number 0 place 0 tried 0
-encoding: 02 01 0b 00 03 00 03 0e 00 1e 00 01 01 01 04 00 00 00 01 00 00 00 00 00 \
-05 00 00 00 01 00 01 00 00 00 07 00 00 00 01 00 00 00 00 00
+encoding: 02 01 0b 00 03 00 03 0e 00 32 00 01 01 01 04 00 00 00 01 00 00 00 00 00 \
+05 00 00 00 01 00 01 00 00 00 07 00 00 00 01 00 00 00 00 00 0d 01 00 00 00 00 00 00 00 00 \
+07 00 02 00 03 00 00 00 00 00
 assign: number 0 place 0 tried 0
 ";
 

@@ -2,7 +2,7 @@
 
 use crate::answer::{settled, Answer, Number};
 use crate::book::{Book, Bounds, MOST};
-use crate::model::{locs, named, Bytes, Set};
+use crate::model::{is_short, locs, named, Bytes, Set};
 use crate::rows::{Operand, Row, Table};
 
 /// Says whether the assignment satisfies the rows that the encoder gives for the book.
@@ -88,6 +88,7 @@ impl Assignment {
                 locs(array(a), set(s1)) & locs(array(a), set(s2)) & !self.named == 0
             }
             Row::Same(a, b, s) => agree(array(a), array(b), set(s)),
+            Row::Long(k, a, s) => is_short(array(a), set(s), k.into()),
         }
     }
 }

@@ -45,6 +45,7 @@ fn row_bytes(row: &Row) -> [u8; ROW] {
         Row::Split(whole, first, second) => (10, 0, [whole, first, second, 0]),
         Row::Apart(array, first, second) => (11, 0, [array, first, second, 0]),
         Row::Same(array, other, set) => (12, 0, [array, other, set, 0]),
+        Row::Long(k, array, set) => (13, k, [array, set, 0, 0]),
     };
     let mut bytes = [operator, k, 0, 0, 0, 0, 0, 0, 0, 0];
     for (pair, operand) in bytes[2..].chunks_exact_mut(2).zip(operands) {

@@ -1,8 +1,9 @@
-//! Document 01, "When a node holds": the truth table, and the judge of models.
+//! Document 01, "When a node holds": the truth table, and the judge of models; and document 02, [4]: the
+//! path bound of a model.
 
 use crate::answer::{settled, Answer};
 use crate::book::Book;
-use crate::model::{locs, named, Bytes, Heap, Model, Set};
+use crate::model::{is_short, locs, named, Bytes, Heap, Model, Set};
 
 /// Says whether the model fits the book's formula.
 pub fn judge(book: &[u8], model: &[u8]) -> Answer {
@@ -35,9 +36,11 @@ impl<'a> Judge<'a> {
         }
     }
 
-    /// Whether the stack with this heap fits the formula.
+    /// Whether the stack with this heap fits the formula: it holds, and no path of the heap is too
+    /// long. Parts and added heaps have no path bound.
     pub fn fits(&self, heap: &Heap) -> bool {
-        self.holds(self.book.root(), &heap.value, heap.allocated)
+        is_short(&heap.value, heap.allocated, self.book.bounds.p)
+            && self.holds(self.book.root(), &heap.value, heap.allocated)
     }
 
     /// Whether a node holds on the heap that has these values at the locations in `set`. Parts and
@@ -77,7 +80,7 @@ impl<'a> Judge<'a> {
             left ^= 1 << at;
             at = value[usize::from(at)];
         }
-        left == 0 && set.count_ones() as usize <= self.book.bounds.p
+        left == 0
     }
 
     /// Operator 9: the parts of the set, upward.

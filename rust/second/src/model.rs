@@ -41,6 +41,36 @@ pub fn locs(value: &Bytes, set: Set) -> Set {
     locs
 }
 
+/// Document 02, [4]: whether no simple path along the cells of a set, all its locations different, has
+/// more than `most` links. Each link leaves another cell, so where there are few no path is looked at.
+pub fn is_short(value: &Bytes, set: Set, most: usize) -> bool {
+    if set.count_ones() as usize <= most {
+        return true;
+    }
+    let mut starts = set;
+    while starts != 0 {
+        if links(value, set, starts.trailing_zeros() as usize) > most {
+            return false;
+        }
+        starts &= starts - 1;
+    }
+    true
+}
+
+/// The links of the longest simple path from a location: to where there is no cell, or to before the
+/// first location that comes again.
+fn links(value: &Bytes, set: Set, from: usize) -> usize {
+    let (mut at, mut passed) = (from, 1 << from);
+    while set >> at & 1 == 1 {
+        at = value[at].into();
+        if passed >> at & 1 == 1 {
+            break;
+        }
+        passed |= 1 << at;
+    }
+    Set::count_ones(passed) as usize - 1
+}
+
 /// Values count only at allocated locations. Nil is never allocated.
 #[derive(Clone, Copy, Debug, Default)]
 pub struct Heap {

@@ -1,4 +1,5 @@
-//! Document 01, "The encoding": the rows of a formula and the symbols they speak of.
+//! Document 01, "The encoding": the rows of a formula and the symbols they speak of; and document 02,
+//! [4]: the row on the model's paths.
 
 use crate::answer::{Answer, Number};
 use crate::book::{Book, MOST_NODES};
@@ -33,6 +34,8 @@ pub enum Row {
     Apart(Operand, Operand, Operand),
     /// A, B, S
     Same(Operand, Operand, Operand),
+    /// k; A, S
+    Long(u8, Operand, Operand),
 }
 
 /// The rows of a formula, and how many arrays and sets they speak of.
@@ -53,7 +56,8 @@ impl Table {
             arrays: 1,
             sets: 1,
         };
-        table.node(book, book.root() as u8, 0, 0);
+        let formula = table.node(book, book.root() as u8, 0, 0);
+        table.also(formula, Row::Long(book.bounds.p as u8, 0, 0));
         Ok(table)
     }
 
@@ -66,7 +70,7 @@ impl Table {
             1 => self.both(Row::Eq(x, y), Row::Empty(set)),
             2 => self.both(Row::Ne(x, y), Row::Empty(set)),
             3 => self.both(Row::One(set, x), Row::At(array, x, y)),
-            4 => self.list(book.bounds.p as u8, |k| Row::Chain(k, array, set, x, y)),
+            4 => self.list(book.bounds.n as u8, |k| Row::Chain(k, array, set, x, y)),
             8 => {
                 let row = self.node(book, a, array, set);
                 self.add(Row::Not(row))
@@ -85,13 +89,13 @@ impl Table {
         }
     }
 
-    /// Chains of 0 to p links, and then ORs from left to right.
-    fn list(&mut self, p: u8, chain: impl Fn(u8) -> Row) -> Operand {
+    /// Chains of 0 to n links, and then ORs from left to right.
+    fn list(&mut self, n: u8, chain: impl Fn(u8) -> Row) -> Operand {
         let none = self.add(chain(0));
-        for k in 1..=p {
+        for k in 1..=n {
             self.add(chain(k));
         }
-        (1..=Operand::from(p)).fold(none, |so_far, k| self.add(Row::Or(so_far, none + k)))
+        (1..=Operand::from(n)).fold(none, |so_far, k| self.add(Row::Or(so_far, none + k)))
     }
 
     fn separation(&mut self, book: &Book, ab: [u8; 2], array: Operand, set: Operand) -> Operand {

@@ -68,6 +68,21 @@ const JUDGED: &[Judged] = &[
     ("P10", [1, 1, 1], SEP_OF_SEPTRACTION, &[1, 1], true),
     ("P11, p = 1", [1, 2, 1], &[[4, 1, 0]], &[1, 2, 0], false),
     ("P11, p = 2", [1, 2, 2], &[[4, 1, 0]], &[1, 2, 0], true),
+    (
+        "¬ls(x,nil), p = 1",
+        [1, 2, 1],
+        &[[4, 1, 0], [8, 0, 0]],
+        &[1, 2, 0],
+        false,
+    ),
+    (
+        "an added heap, p = 0",
+        [1, 1, 0],
+        &[[3, 1, 0], [3, 1, 0], [10, 0, 1]],
+        &[1, 255],
+        true,
+    ),
+    ("x ↦ x, p = 0", [1, 1, 0], &[[3, 1, 1]], &[1, 1], true),
     ("P12", [1, 1, 1], &[[4, 1, 1]], &[1, 1], false),
     ("P14, x ↦ y", [2, 2, 2], &[[3, 1, 2]], &[1, 2, 2, 255], true),
     (
@@ -107,12 +122,14 @@ fn models() {
 #[test]
 fn p1_in_bytes() {
     assert_eq!(book([1, 1, 1], &[[3, 1, 1]]), P1);
-    let mut out = [0xA5; 45];
+    let mut out = [0xA5; 65];
     assert_eq!(encode(P1, &mut out), answered(0));
-    let mut expected = vec![2, 1, 11, 0, 3, 0, 3, 14, 0, 30, 0, 1, 1, 1];
+    let mut expected = vec![2, 1, 11, 0, 3, 0, 3, 14, 0, 50, 0, 1, 1, 1];
     expected.extend([4, 0, 0, 0, 1, 0, 0, 0, 0, 0]);
     expected.extend([5, 0, 0, 0, 1, 0, 1, 0, 0, 0]);
     expected.extend([7, 0, 0, 0, 1, 0, 0, 0, 0, 0]);
+    expected.extend([13, 1, 0, 0, 0, 0, 0, 0, 0, 0]);
+    expected.extend([7, 0, 2, 0, 3, 0, 0, 0, 0, 0]);
     expected.push(0xA5);
     assert_eq!(out[..], expected);
     assert_eq!(assign(P1, &[1, 1, 1]), answered(0));

@@ -29,8 +29,9 @@ const COMMON: &str = "
 FILE is the path of a text or a book, or - for standard input. It is a text if it ends in .smt2, or
 with --text: a formula such as (sep (pto x y) (ls y sep.nil)). A text says nothing of how far to
 look; --n N gives the number of locations besides nil (4 if it is left out), and --p P the most
-links of a list (n if it is left out), each up to 6. A whole SMT-LIB file, with (assert ..), is
-translated into such a text first. The text is read by a proved call; the translation is not proved.
+links of a model's paths (n if it is left out), each up to 6. A whole SMT-LIB file, with
+(assert ..), is translated into such a text first. The text is read by a proved call; the
+translation is not proved.
 
 MODEL and ASSIGNMENT are hex digits, with or without spaces, or @PATH for a file of bytes. --json
 prints one JSON object on standard output, whatever the answer is; bytes are hex digits in it.
@@ -58,7 +59,7 @@ const SEARCH: &str = "\
 hollyspool search FILE [--budget N] [--json]
 
 Tries the candidates in their order, the first N of them or all, and prints the lowest that fits.
-\"None\" speaks of the bounds: no model with v variables, n locations and lists of at most p links
+\"None\" speaks of the bounds: no model with v variables, n locations and no simple path over p links
 fits. It is never unsat. A book with a declared variable that no atom names is refused.
 
 A search that takes over a second reports on standard error. The search itself is one proved call
@@ -78,7 +79,8 @@ const ENCODE: &str = "\
 hollyspool encode FILE [--raw] [--json]
 
 Prints the rows in words, a row a line: x is a variable, A an array, S a set, r an earlier row; the
-variables of a text have its names. --raw prints the encoding's bytes instead.
+variables of a text have its names. LONG holds where there is no simple path over k links. --raw
+prints the encoding's bytes instead.
 ";
 
 const ASSIGN: &str = "\

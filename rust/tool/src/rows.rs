@@ -7,7 +7,7 @@ pub const ROW: usize = 10;
 
 /// The name of each row operator, from 1, and what its operands are: variables (x), arrays (A),
 /// sets (S) or earlier rows (r).
-const ROWS: [(&str, &str); 12] = [
+const ROWS: [(&str, &str); 13] = [
     ("EQ", "xx"),
     ("NE", "xx"),
     ("EMPTY", "S"),
@@ -20,9 +20,11 @@ const ROWS: [(&str, &str); 12] = [
     ("SPLIT", "SSS"),
     ("APART", "ASS"),
     ("SAME", "AAS"),
+    ("LONG", "AS"),
 ];
 
-const CHAIN: u8 = 6;
+/// The rows that have a k: CHAIN and LONG.
+const WITH_K: [u8; 2] = [6, 13];
 
 /// A row, as the encoder writes it, with these names for variables 1, 2, ..
 pub fn in_words(row: &[u8; ROW], names: &[String]) -> String {
@@ -36,7 +38,7 @@ pub fn in_words(row: &[u8; ROW], names: &[String]) -> String {
             (kind, number) => format!(" {kind}{number}"),
         };
     }
-    if *operator == CHAIN {
+    if WITH_K.contains(operator) {
         words += &format!(" k={k}");
     }
     words

@@ -2,7 +2,7 @@
 use borrow.Author.Needs.{needs}
 use native.Mathlib.Omega.{arith}
 use Rattle.packing.specs.PackingLaws.{packed-stack}
-use Rattle.assign.specs.JudgingLaws.{bytes-few, long, few-arrays, ready, within, root-satisfies}
+use Rattle.assign.specs.JudgingLaws.{bytes-few, long, few-arrays, ready, within, long-satisfies, not-satisfied}
 use Rattle.assign.proofs.satisfies.Statement.{statement}
 use Rattle.assign.proofs.satisfies.Tie as tie
 
@@ -44,13 +44,26 @@ node-requires c κs =
     let z = c .before .before .before .before .before .before .pre in
     let a = c .before .before .before .before .before .before .args in
     let e = packed-stack (a .q .now) (λ i. omega (arith, c .before .before .before .before .before .shared-slice-known .given i)) (a .v) (c .before .before .before .packed .result) (c .before .before .before .packed .ensures) in
-    (ready (a .q .now) (a .f .now) (a .v) (a .n) (a .arrays) (a .sets) z (a .p) (c .before .before .before .packed .result) (c .before .before .unnamed .result) _ e (c .before .before .unnamed .ensures) (c .before .unpack .ensures), z .table, omega (arith, z .table .some), within (a .q .now) (a .f .now) (a .v) (a .n) (a .arrays) (a .sets) z (a .p) (c .before .before .before .packed .result) (c .before .before .unnamed .result))
+    (ready (a .q .now) (a .f .now) (a .v) (a .n) (a .arrays) (a .sets) z (c .before .before .before .packed .result) (c .before .before .unnamed .result) _ e (c .before .before .unnamed .ensures) (c .before .unpack .ensures), z .table, omega (arith, z .table .some), within (a .q .now) (a .f .now) (a .v) (a .n) (a .arrays) (a .sets) z (c .before .before .before .packed .result) (c .before .before .unnamed .result))
+
+long-holds-requires : tie.Need-long-holds-requires
+long-holds-requires c κs =
+    let z = c .before .before .before .before .before .before .before .before .before .pre in
+    let a = c .before .before .before .before .before .before .before .before .before .args in
+    let e = packed-stack (a .q .now) (λ i. omega (arith, c .before .before .before .before .before .before .before .before .shared-slice-known .given i)) (a .v) (c .before .before .before .before .before .before .packed .result) (c .before .before .before .before .before .before .packed .ensures) in
+    (ready (a .q .now) (a .f .now) (a .v) (a .n) (a .arrays) (a .sets) z (c .before .before .before .before .before .before .packed .result) (c .before .before .before .before .before .unnamed .result) _ e (c .before .before .before .before .before .unnamed .ensures) (c .before .before .before .before .unpack .ensures), omega (arith, z .arrays), omega (arith, z .sets))
 
 returns : tie.Need-returns
 returns c =
-    let z = c .before .before .before .before .before .before .before .pre in
-    let a = c .before .before .before .before .before .before .before .args in
-    root-satisfies (a .q .now) (a .f .now) (a .v) (a .n) (a .arrays) (a .sets) z (a .p) (c .before .before .before .before .packed .result) (c .before .before .before .unnamed .result) (c .node .result) (c .node .ensures)
+    let z = c .before .before .before .before .before .before .before .before .before .before .pre in
+    let a = c .before .before .before .before .before .before .before .before .before .before .args in
+    long-satisfies (a .q .now) (a .f .now) (a .v) (a .n) (a .arrays) (a .sets) z (c .before .before .before .before .before .before .before .packed .result) (c .before .before .before .before .before .before .unnamed .result) (a .p) (c .before .before .before .node .result) (c .before .before .before .node .ensures) (c .before .before .if1 .taken) _ (c .long-holds .ensures)
+
+returns-2 : tie.Need-returns-2
+returns-2 c =
+    let z = c .before .before .before .before .before .before .before .before .pre in
+    let a = c .before .before .before .before .before .before .before .before .args in
+    not-satisfied (a .q .now) (a .f .now) (a .v) (a .n) (a .arrays) (a .sets) z (c .before .before .before .before .before .packed .result) (c .before .before .before .before .unnamed .result) (a .p) (c .before .node .result) (c .before .node .ensures) (c .if1 .left)
 
 pub satisfies-spec : {M : Type 1} → statement M
 satisfies-spec =
@@ -63,4 +76,6 @@ satisfies-spec =
     unpack-requires
     sub-node
     node-requires
-    returns)
+    long-holds-requires
+    returns
+    returns-2)

@@ -2,7 +2,6 @@
 use mathlib.Core.Path.{refl, _∙_, ap}
 use native.Mathlib.Omega.{arith}
 use borrow.Author.Needs.{needs}
-use Rattle.logic.specs.Agree.{heap-more}
 use Rattle.cells.specs.Cells.{cells}
 use Rattle.judge.specs.Atoms.{variables, locations, same-there, same-elsewhere, diff-there, diff-elsewhere, points-to, list-from}
 use Rattle.judge.proofs.atom.Statement.{statement}
@@ -63,7 +62,7 @@ element-copy-out-is-list : tie.Need-element-copy-out-is-list
 element-copy-out-is-list c = search needs
 
 is-list-requires : tie.Need-is-list-requires
-is-list-requires c κs = (locations _ _ _ (c .before .before .before .before .before .before .before .before .before .before .before .pre .1) (c .before .before .before .before .before .before .before .before .before .before .before .pre .0) _ _ (c .before .before .before .before .before .before .cell .ensures ∙ ap (cells _) (c .before .before .before .before .before .before .before .long .ensures)) (c .before .before .cell2 .ensures ∙ ap (cells _) (c .before .before .before .long2 .ensures)) .0, heap-more _ _ _ ((c .before .before .before .before .before .before .before .before .before .before .before .pre .1) .fewLocs) (c .before .before .before .before .before .before .before .before .before .before .before .pre .2))
+is-list-requires c κs = ((c .before .before .before .before .before .before .before .before .before .before .before .pre .1) .fewLocs, locations _ _ _ (c .before .before .before .before .before .before .before .before .before .before .before .pre .1) (c .before .before .before .before .before .before .before .before .before .before .before .pre .0) _ _ (c .before .before .before .before .before .before .cell .ensures ∙ ap (cells _) (c .before .before .before .before .before .before .before .long .ensures)) (c .before .before .cell2 .ensures ∙ ap (cells _) (c .before .before .before .long2 .ensures)) .0, c .before .before .before .before .before .before .before .before .before .before .before .pre .2)
 
 returns : tie.Need-returns
 returns c = same-there _ _ _ (c .before .before .before .before .before .before .before .before .before .before .before .before .pre .1) (c .before .before .before .before .before .before .before .before .before .before .before .before .pre .0) _ _ (c .before .before .before .before .before .before .before .cell .ensures ∙ ap (cells _) (c .before .before .before .before .before .before .before .before .long .ensures)) (c .before .before .before .cell2 .ensures ∙ ap (cells _) (c .before .before .before .before .long2 .ensures)) _ (c .before .before .before .before .before .before .before .before .before .before .before .before .pre .2) _ (c .before .before .match .keys1) (c .before .if1 .taken) (c .is-empty .ensures)

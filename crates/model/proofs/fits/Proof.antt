@@ -13,8 +13,8 @@ sub-last c = search needs
 unnamed-requires : tie.Need-unnamed-requires
 unnamed-requires c κs = search needs
 
-node-holds-requires : tie.Need-node-holds-requires
-node-holds-requires c κs =
+fits-requires : tie.Need-fits-requires
+fits-requires c κs =
     let b = c .before .before .before .before .before in
     let a = b .args in
     (ready (a .v) (a .n) (a .p) (a .f .now) (c .before .before .before .table-of .result) (c .before .before .before .table-of .ensures) (a .stack) (a .heap) (c .before .before .unnamed .result) (b .pre) (c .before .before .unnamed .ensures), b .pre .heap)
@@ -23,7 +23,7 @@ returns : tie.Need-returns
 returns c =
     let b = c .before .before .before .before .before .before in
     let a = b .args in
-    core-fits (a .v) (a .n) (a .p) (a .f .now) (c .before .before .before .before .table-of .result) (c .before .before .before .before .table-of .ensures) (a .stack) (a .heap) (c .before .before .before .unnamed .result) (b .pre) (c .before .before .before .unnamed .ensures) (c .node-holds .result) (c .node-holds .ensures)
+    core-fits (a .v) (a .n) (a .p) (a .f .now) (c .before .before .before .before .table-of .result) (c .before .before .before .before .table-of .ensures) (a .stack) (a .heap) (c .before .before .before .unnamed .result) (b .pre) (c .before .before .before .unnamed .ensures) (c .fits2 .result) (c .fits2 .ensures)
 
 pub fits-spec : {M : Type 1} → statement M
 fits-spec =
@@ -32,5 +32,5 @@ fits-spec =
     table-of-requires
     sub-last
     unnamed-requires
-    node-holds-requires
+    fits-requires
     returns)

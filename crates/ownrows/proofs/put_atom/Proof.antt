@@ -13,7 +13,7 @@ plain-requires-2 : tie.Need-plain-requires-2
 plain-requires-2 c κs = search needs
 
 put-pair-requires : tie.Need-put-pair-requires
-put-pair-requires c κs = let a = c .before .before .before .before .before .args in space-pair (a .p) (a .op) (a .x) (a .y) (a .a) (a .s) _ _ (omega arith) (omega arith) (c .before .before .before .before .before .pre .3)
+put-pair-requires c κs = let a = c .before .before .before .before .before .args in space-pair (a .n) (a .op) (a .x) (a .y) (a .a) (a .s) _ _ (omega arith) (omega arith) (c .before .before .before .before .before .pre .3)
 
 plain-requires-3 : tie.Need-plain-requires-3
 plain-requires-3 c κs = search needs
@@ -22,7 +22,7 @@ plain-requires-4 : tie.Need-plain-requires-4
 plain-requires-4 c κs = search needs
 
 put-pair-requires-2 : tie.Need-put-pair-requires-2
-put-pair-requires-2 c κs = let a = c .before .before .before .before .before .args in space-pair (a .p) (a .op) (a .x) (a .y) (a .a) (a .s) _ _ (omega arith) (omega arith) (c .before .before .before .before .before .pre .3)
+put-pair-requires-2 c κs = let a = c .before .before .before .before .before .args in space-pair (a .n) (a .op) (a .x) (a .y) (a .a) (a .s) _ _ (omega arith) (omega arith) (c .before .before .before .before .before .pre .3)
 
 plain-requires-5 : tie.Need-plain-requires-5
 plain-requires-5 c κs = search needs
@@ -31,17 +31,17 @@ plain-requires-6 : tie.Need-plain-requires-6
 plain-requires-6 c κs = search needs
 
 put-pair-requires-3 : tie.Need-put-pair-requires-3
-put-pair-requires-3 c κs = let a = c .before .before .before .before .before .args in space-pair (a .p) (a .op) (a .x) (a .y) (a .a) (a .s) _ _ (omega arith) (omega arith) (c .before .before .before .before .before .pre .3)
+put-pair-requires-3 c κs = let a = c .before .before .before .before .before .args in space-pair (a .n) (a .op) (a .x) (a .y) (a .a) (a .s) _ _ (omega arith) (omega arith) (c .before .before .before .before .before .pre .3)
 
 put-chains-requires : tie.Need-put-chains-requires
-put-chains-requires c κs = let a = c .before .before .before .args in let h = space-ls (a .p) (a .op) (a .x) (a .y) (a .a) (a .s) _ _ (omega arith) (c .before .before .before .pre .3) in (c .before .before .before .pre .2, space-less _ h (omega arith))
+put-chains-requires c κs = let a = c .before .before .before .args in let h = space-ls (a .n) (a .op) (a .x) (a .y) (a .a) (a .s) _ _ (omega arith) (c .before .before .before .pre .3) in (c .before .before .before .pre .2, space-less _ h (omega arith))
 
 put-ors-requires : tie.Need-put-ors-requires
 put-ors-requires c κs =
     let a = c .before .before .before .before .before .before .before .args in
-    let h = space-ls (a .p) (a .op) (a .x) (a .y) (a .a) (a .s) _ _ (omega arith) (c .before .before .before .before .before .before .before .pre .3) in
+    let h = space-ls (a .n) (a .op) (a .x) (a .y) (a .a) (a .s) _ _ (omega arith) (c .before .before .before .before .before .before .before .pre .3) in
     let q = c .before .before .before .put-chains in
-    (omega (arith, row-after (q .ensures)), space-after (a .p) _ (q .ensures) h (q .kept .0))
+    (omega (arith, row-after (q .ensures)), space-after (a .n) _ (q .ensures) h (q .kept .0))
 
 same-length : tie.Need-same-length
 same-length c = search needs
@@ -67,7 +67,7 @@ same-length-4 c = search needs
 returns-4 : tie.Need-returns-4
 returns-4 c =
     let a = c .before .before .before .before .before .before .before .before .before .before .args in
-    ls-rows _ _ _ _ _ _ _ _ _ _ _ _ (omega arith) (space-ls (a .p) (a .op) (a .x) (a .y) (a .a) (a .s) _ _ (omega arith) (c .before .before .before .before .before .before .before .before .before .before .pre .3)) (c .before .before .before .before .before .before .put-chains .ensures) (c .before .before .put-ors .ensures)
+    ls-rows _ _ _ _ _ _ _ _ _ _ _ _ (omega arith) (space-ls (a .n) (a .op) (a .x) (a .y) (a .a) (a .s) _ _ (omega arith) (c .before .before .before .before .before .before .before .before .before .before .pre .3)) (c .before .before .before .before .before .before .put-chains .ensures) (c .before .before .put-ors .ensures)
 
 pub put-atom-spec : {M : Type 1} → statement M
 put-atom-spec =

@@ -13,10 +13,10 @@ use Rattle.ownrows.proofs.put_chains.Statement.{statement}
 use Rattle.ownrows.proofs.put_chains.Tie as tie
 
 abbrev Inv-loop : tie.InvT-loop
-Inv-loop out₀ a s x y p end t₀ k₀ out t k = Puts t₀ k 0 0 (bytesOf (chains a s x y k)) t out₀ out × (k ≤ end) × (end ≡ p + 1) × (length out ≡ length out₀)
+Inv-loop out₀ a s x y n end t₀ k₀ out t k = Puts t₀ k 0 0 (bytesOf (chains a s x y k)) t out₀ out × (k ≤ end) × (end ≡ n + 1) × (length out ≡ length out₀)
 
 abbrev μ-loop : tie.MeasureT-loop
-μ-loop out₀ a s x y p end t₀ k₀ out t k = end - k
+μ-loop out₀ a s x y n end t₀ k₀ out t k = end - k
 
 add-end : tie.Need-add-end Inv-loop μ-loop
 add-end c = search needs
@@ -57,7 +57,7 @@ returns : tie.Need-returns Inv-loop μ-loop
 returns c =
     let l = c .before .loop in
     let a = c .before .before .before .args in
-    let e : l .k ≡ a .p + 1 = omega arith in
+    let e : l .k ≡ a .n + 1 = omega arith in
     subst (λ (k : ℕ). Puts (a .st) k 0 0 (bytesOf (chains (a .a) (a .s) (a .x) (a .y) k)) (l .t) (a .out .now) (l .out)) e (l .inv .0)
 
 pub put-chains-spec : {M : Type 1} → statement M

@@ -13,10 +13,10 @@ use Rattle.ownrows.proofs.put_ors.Statement.{statement}
 use Rattle.ownrows.proofs.put_ors.Tie as tie
 
 abbrev Inv-loop : tie.InvT-loop
-Inv-loop out₀ r p t₀ last₀ k₀ out t last k = Puts t₀ k 0 0 (bytesOf (ors r (t₀ .row) k)) t out₀ out × (k ≤ p) × (last ≡ soFar r (t₀ .row) k) × (length out ≡ length out₀)
+Inv-loop out₀ r n t₀ last₀ k₀ out t last k = Puts t₀ k 0 0 (bytesOf (ors r (t₀ .row) k)) t out₀ out × (k ≤ n) × (last ≡ soFar r (t₀ .row) k) × (length out ≡ length out₀)
 
 abbrev μ-loop : tie.MeasureT-loop
-μ-loop out₀ r p t₀ last₀ k₀ out t last k = p - k
+μ-loop out₀ r n t₀ last₀ k₀ out t last k = n - k
 
 loop-holds : tie.Need-loop-holds Inv-loop μ-loop
 loop-holds c = (ors-none _ _ _ _, search needs, so-far-start _ _, refl)
@@ -60,7 +60,7 @@ returns : tie.Need-returns Inv-loop μ-loop
 returns c =
     let l = c .before .loop in
     let a = c .before .before .before .args in
-    let e : l .k ≡ a .p = omega arith in
+    let e : l .k ≡ a .n = omega arith in
     subst (λ (k : ℕ). Puts (a .st) k 0 0 (bytesOf (ors (a .r) (a .st .row) k)) (l .t) (a .out .now) (l .out)) e (l .inv .0)
 
 pub put-ors-spec : {M : Type 1} → statement M

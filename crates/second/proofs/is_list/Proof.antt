@@ -5,10 +5,10 @@ use Rattle.second.proofs.is_list.Statement.{statement}
 use Rattle.second.proofs.is_list.Tie as tie
 
 abbrev Inv-loop : tie.InvT-loop
-Inv-loop x y h base path t₀ counter₀ t counter = counter ≤ path
+Inv-loop x y h base links t₀ counter₀ t counter = counter ≤ links
 
 abbrev μ-loop : tie.MeasureT-loop
-μ-loop x y h base path t₀ counter₀ t counter = path - counter
+μ-loop x y h base links t₀ counter₀ t counter = links - counter
 
 loop-holds : tie.Need-loop-holds Inv-loop μ-loop
 loop-holds c = search needs

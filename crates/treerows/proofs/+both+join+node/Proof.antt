@@ -130,7 +130,7 @@ join-node-requires t c κs =
 
 join-sub-put-not : (t : ℕ) → join-lts.Need-sub-put-not (join-uses t) (join-at t) join.Post
 join-sub-put-not t c =
-    let a = c .before .before .before .before .before .before .before .before .before .args in omega (arith, row-after (c .before .before .before .before .node .ensures), rows-some (a .p) (tree (a .f .now) (a .x)))
+    let a = c .before .before .before .before .before .before .before .before .before .args in omega (arith, row-after (c .before .before .before .before .node .ensures), rows-some (a .n) (tree (a .f .now) (a .x)))
 
 join-put-not-requires : (t : ℕ) → join-lts.Need-put-not-requires (join-uses t) (join-at t) join.Post
 join-put-not-requires t c κs =
@@ -248,7 +248,7 @@ node-put-atom-requires : (t : ℕ) → node-lts.Need-put-atom-requires (node-use
 node-put-atom-requires t c κs =
     let z = c .before .before .before .before .before .before .before .before .before .before .pre .1 in
     let a = c .before .before .before .before .before .before .before .before .before .before .args in
-    (omega arith, omega arith, z .1, room-atom (z .2 .0) (a .f .now) (z .2 .1) (a .k) _ _ (a .p) (z .0) (c .before .short .ensures) (c .short2 .ensures) _ _ (omega arith) (z .3))
+    (omega arith, omega arith, z .1, room-atom (z .2 .0) (a .f .now) (z .2 .1) (a .k) _ _ (a .n) (z .0) (c .before .short .ensures) (c .short2 .ensures) _ _ (omega arith) (z .3))
 
 node-wide-requires : (t : ℕ) → node-lts.Need-wide-requires (node-uses t) (node-at t) node.Post
 node-wide-requires t c κs = search needs
@@ -265,7 +265,7 @@ node-join-requires t c κs =
     let ey = c .wide2 .ensures .0 in
     let h = lower (z .2 .0) (a .f .now) (z .2 .1) (a .k) _ _ (z .0) ex ey l in (
       omega (arith, c .before .before .before .before .before .before .before .before .before .before .before .pre .0),
-      (z .0, h .0, h .1, l, omega arith, z .1, z .2, room-join (z .2 .0) (a .f .now) (z .2 .1) (a .k) _ _ (a .p) (z .0) ex ey _ _ l (z .3)),
+      (z .0, h .0, h .1, l, omega arith, z .1, z .2, room-join (z .2 .0) (a .f .now) (z .2 .1) (a .k) _ _ (a .n) (z .0) ex ey _ _ l (z .3)),
     )
 
 node-same-length : (t : ℕ) → node-lts.Need-same-length (node-uses t) (node-at t) node.Post
@@ -275,7 +275,7 @@ node-returns : (t : ℕ) → node-lts.Need-returns (node-uses t) (node-at t) nod
 node-returns t c =
     let z = c .before .before .before .before .before .before .before .before .before .before .before .before .before .pre .1 in
     let a = c .before .before .before .before .before .before .before .before .before .before .before .before .before .args in
-    atom-encoded (z .2 .0) (a .f .now) (z .2 .1) (a .k) _ _ (a .p) (z .0) (c .before .before .before .before .short .ensures) (c .before .before .before .short2 .ensures) _ _ _ _ _ _ (omega arith) (c .before .before .put-atom .ensures)
+    atom-encoded (z .2 .0) (a .f .now) (z .2 .1) (a .k) _ _ (a .n) (z .0) (c .before .before .before .before .short .ensures) (c .before .before .before .short2 .ensures) _ _ _ _ _ _ (omega arith) (c .before .before .put-atom .ensures)
 
 node-same-length-2 : (t : ℕ) → node-lts.Need-same-length-2 (node-uses t) (node-at t) node.Post
 node-same-length-2 t c = search needs
@@ -284,7 +284,7 @@ node-returns-2 : (t : ℕ) → node-lts.Need-returns-2 (node-uses t) (node-at t)
 node-returns-2 t c =
     let z = c .before .before .before .before .before .before .before .before .before .before .before .before .before .before .pre .1 in
     let a = c .before .before .before .before .before .before .before .before .before .before .before .before .before .before .args in
-    join-encoded (z .2 .0) (a .f .now) (z .2 .1) (a .k) _ _ (a .p) (z .0) (c .before .before .before .before .wide .ensures .0) (c .before .before .before .wide2 .ensures .0) _ _ _ _ _ _ (omega arith) (c .before .before .join .ensures)
+    join-encoded (z .2 .0) (a .f .now) (z .2 .1) (a .k) _ _ (a .n) (z .0) (c .before .before .before .before .wide .ensures .0) (c .before .before .before .wide2 .ensures .0) _ _ _ _ _ _ (omega arith) (c .before .before .join .ensures)
 
 node-returns-3 : (t : ℕ) → node-lts.Need-returns-3 (node-uses t) (node-at t) node.Post
 node-returns-3 t c =

@@ -3,12 +3,10 @@
 use cases::line::{about, Call, Outcome};
 use cases::made::{book, small, tree};
 use cases::random::Random;
+use hollyspool::MOST_ENCODED;
 use second::encode::encode;
 
 use crate::compare::{proved, MOST};
-
-/// The longest encoding.
-const LONGEST: usize = 6_354;
 
 /// Few negations, so that most books have an encoding.
 const OPERATORS: [u8; 16] = [1, 2, 3, 3, 4, 4, 5, 5, 6, 6, 7, 8, 9, 9, 10, 10];
@@ -39,12 +37,12 @@ fn random_books() {
         let bounds = [(); 3].map(|()| random.up_to(MOST));
         let nodes = tree(&mut random, bounds[0], 1 + round % 64, &OPERATORS);
         let book = book(bounds, &nodes);
-        let length = same_encoding(&book, LONGEST + 1);
+        let length = same_encoding(&book, MOST_ENCODED + 1);
         for room in [
             length.saturating_sub(1),
             length,
             length + 1,
-            random.below(LONGEST),
+            random.below(MOST_ENCODED),
         ] {
             same_encoding(&book, room);
         }

@@ -2,6 +2,7 @@
 
 use cases::made::{book, tree};
 use cases::random::Random;
+use hollyspool::MOST_ENCODED;
 use second::assign::assign;
 
 use crate::compare::{proved, MOST};
@@ -17,7 +18,7 @@ fn models_give_assignments() {
         let [v, n, p] = [random.up_to(MOST), random.up_to(2), random.up_to(2)];
         let nodes = tree(&mut random, v, 1 + round % 9, &OPERATORS);
         let book = book([v, n, p], &nodes);
-        if hollyspool::encode(&book, &mut [0; 6354]).number == 0 {
+        if hollyspool::encode(&book, &mut [0; MOST_ENCODED]).number == 0 {
             for _ in 0..20 {
                 satisfied += usize::from(one_model(&mut random, [v, n, p], &nodes, &book));
             }
@@ -34,11 +35,10 @@ fn one_model(random: &mut Random, [v, n, p]: [u8; 3], nodes: &[[u8; 3]], book: &
     let mut witness = Witness {
         nodes,
         stack: &stack,
-        p,
         arrays: vec![value.clone()],
         sets: vec![set],
     };
-    let fits = witness.holds(nodes.len() - 1, &value, set);
+    let fits = witness.holds(nodes.len() - 1, &value, set) && !goes_on(&value, set, p);
     let cell = |at: usize| if set >> at & 1 == 0 { 255 } else { value[at] };
     let model: Vec<u8> = stack
         .iter()
@@ -73,7 +73,6 @@ fn one_model(random: &mut Random, [v, n, p]: [u8; 3], nodes: &[[u8; 3]], book: &
 struct Witness<'a> {
     nodes: &'a [[u8; 3]],
     stack: &'a [u8],
-    p: u8,
     arrays: Vec<Vec<u8>>,
     sets: Vec<u8>,
 }
@@ -96,7 +95,7 @@ impl Witness<'_> {
             1 => set == 0 && x == y,
             2 => set == 0 && x != y,
             3 => x != 0 && set == 1 << (x - 1) && value[usize::from(x) - 1] == y,
-            4 => list(x, y, value, set, self.p),
+            4 => list(x, y, value, set),
             5 => self.holds(a, value, set) & self.holds(b, value, set),
             6 => self.holds(a, value, set) | self.holds(b, value, set),
             7 => self.holds(a, value, set) & !self.holds(b, value, set),
@@ -166,17 +165,33 @@ impl Witness<'_> {
     }
 }
 
-fn list(mut at: u8, last: u8, value: &[u8], set: u8, p: u8) -> bool {
+fn list(mut at: u8, last: u8, value: &[u8], set: u8) -> bool {
     let mut left = set;
-    for _ in 0..=p {
-        if at == last {
-            return left == 0;
-        }
+    while at != last {
         if at == 0 || left >> (at - 1) & 1 == 0 {
             return false;
         }
         left ^= 1 << (at - 1);
         at = value[usize::from(at) - 1];
     }
-    false
+    left == 0
+}
+
+/// Whether a path along the cells of `set` has p + 1 links, all its locations different.
+fn goes_on(value: &[u8], set: u8, p: u8) -> bool {
+    (1..=value.len()).any(|start| {
+        let mut path = vec![start];
+        while path.len() <= usize::from(p) + 1 {
+            let last = path[path.len() - 1];
+            if last == 0 || set >> (last - 1) & 1 == 0 {
+                return false;
+            }
+            let next = usize::from(value[last - 1]);
+            if path.contains(&next) {
+                return false;
+            }
+            path.push(next);
+        }
+        true
+    })
 }

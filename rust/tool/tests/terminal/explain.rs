@@ -9,7 +9,7 @@ fn accepted() {
     assert_eq!(
         explained.out,
         "formula  ls(x1, nil) ∧ (x1 ↦ x1 * (nil = nil ∨ ¬(nil = nil)))\nnodes    8\n\
-         bounds   v = 1, n = 4, p = 4\nT        6480 candidates\nrows     26\n\
+         bounds   v = 1, n = 4, p = 4\nT        6480 candidates\nrows     28\n\
          text     (and (ls v1 sep.nil) (sep (pto v1 v1) (or (and (= sep.nil sep.nil) sep.emp) \
          (not (and (= sep.nil sep.nil) sep.emp)))))\n"
     );
@@ -23,7 +23,7 @@ fn stray_variables() {
     assert_eq!(
         explained.out,
         "formula  x2 ↦ nil\nnodes    1\nbounds   v = 4, n = 1, p = 1\nT        48 candidates\n\
-         rows     3\ntext     (pto v2 sep.nil)\nstray    x1, x3, x4: declared, but named by no atom; search refuses the book\n"
+         rows     5\ntext     (pto v2 sep.nil)\nstray    x1, x3, x4: declared, but named by no atom; search refuses the book\n"
     );
 }
 

@@ -122,7 +122,7 @@ fn what_stands_in_a_book() {
     let fields = fields(&run);
     assert_eq!(fields["formula"], text("x1 ↦ x1"));
     assert_eq!(fields["text"], text("(pto v1 v1)"));
-    for (name, number) in [("v", 1), ("n", 1), ("p", 1), ("total", 6), ("rows", 3)] {
+    for (name, number) in [("v", 1), ("n", 1), ("p", 1), ("total", 6), ("rows", 5)] {
         assert_eq!(fields[name], Json::Number(number), "{name}");
     }
     assert_eq!(fields["stray"], Json::List(Vec::new()));

@@ -83,10 +83,13 @@ fn assigned() {
 fn encoded() {
     let rows = run_on(&P1, &["encode", "-"]);
     assert_eq!(rows.status, 0);
-    assert_eq!(rows.out, "r0 ONE S0 x1\nr1 AT A0 x1 x1\nr2 AND r0 r1\n");
+    assert_eq!(
+        rows.out,
+        "r0 ONE S0 x1\nr1 AT A0 x1 x1\nr2 AND r0 r1\nr3 LONG A0 S0 k=1\nr4 AND r2 r3\n"
+    );
     let raw = run_on(&P1, &["encode", "-", "--raw"]);
     assert_eq!(raw.out.as_bytes()[..4], [2, 1, 11, 0]);
-    assert_eq!(raw.out.len(), 44);
+    assert_eq!(raw.out.len(), 64);
     // ¬(x ↦ x * x ↦ x)
     let negated = [
         2, 1, 11, 0, 3, 0, 2, 14, 0, 12, 0, 1, 1, 1, 3, 1, 1, 3, 1, 1, 9, 0, 1, 8, 2, 0,

@@ -51,19 +51,28 @@ fn every_command() {
             "found: head=1 x=0 ; 1→0\nmodel 01 00 00 ff\ntried 18 of T = 144\n",
         ),
         (&["judge", "-", "--n", "2", "01020200"], 0, "fits\n"),
-        (&["judge", "-", "--n", "2", "--p", "0", "01020200"], 1, "does not fit\n"),
         (
-            &["encode", "-", "--p", "0"],
-            0,
-            "r0 ONE S1 head\nr1 AT A0 head x\nr2 AND r0 r1\nr3 CHAIN A0 S2 x nil k=0\nr4 AND r2 r3\n\
-             r5 SPLIT S0 S1 S2\nr6 AND r4 r5\nr7 APART A0 S1 S2\nr8 AND r6 r7\n",
+            &["judge", "-", "--n", "2", "--p", "0", "01020200"],
+            1,
+            "does not fit\n",
         ),
-        (&["assign", "-", "--n", "1", "--p", "1", "010000010100"], 0, "satisfied\n"),
+        (
+            &["encode", "-", "--n", "1", "--p", "0"],
+            0,
+            "r0 ONE S1 head\nr1 AT A0 head x\nr2 AND r0 r1\nr3 CHAIN A0 S2 x nil k=0\n\
+             r4 CHAIN A0 S2 x nil k=1\nr5 OR r3 r4\nr6 AND r2 r5\nr7 SPLIT S0 S1 S2\nr8 AND r6 r7\n\
+             r9 APART A0 S1 S2\nr10 AND r8 r9\nr11 LONG A0 S0 k=0\nr12 AND r10 r11\n",
+        ),
+        (
+            &["assign", "-", "--n", "1", "--p", "1", "010000010100"],
+            0,
+            "satisfied\n",
+        ),
         (
             &["explain", "-"],
             0,
             "formula  head ↦ x * ls(x, nil)\nnodes    3\nbounds   v = 2, n = 4, p = 4\n\
-             T        32400 candidates\nrows     17\ntext     (sep (pto v1 v2) (ls v2 sep.nil))\n\
+             T        32400 candidates\nrows     19\ntext     (sep (pto v1 v2) (ls v2 sep.nil))\n\
              names    head is 1, x is 2\n",
         ),
         (
@@ -73,10 +82,19 @@ fn every_command() {
              1 [shape=ellipse, style=solid, label=\"1\\nhead\"];\n  1 -> 0;\n}\n",
         ),
         (&["text", "-"], 0, "(sep (pto v1 v2) (ls v2 sep.nil))\n"),
-        (&["translate", "-"], 0, "(sep (pto head x)\n     (ls x sep.nil))\n"),
+        (
+            &["translate", "-"],
+            0,
+            "(sep (pto head x)\n     (ls x sep.nil))\n",
+        ),
     ] {
         let run = run_on(text, &[args, &["--text"]].concat());
-        assert_eq!((run.status, &*run.out), (status, out), "{args:?}: {}", run.err);
+        assert_eq!(
+            (run.status, &*run.out),
+            (status, out),
+            "{args:?}: {}",
+            run.err
+        );
     }
 }
 
