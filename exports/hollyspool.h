@@ -79,6 +79,17 @@ hollyspool_answer hollyspool_encode(const uint8_t *book, size_t book_length, uin
 hollyspool_answer hollyspool_assign(const uint8_t *book, size_t book_length, const uint8_t *assignment,
                                     size_t assignment_length);
 
+/* The same four in the ordinary profile, in which operators 9 and 10 ask only that no cell be allocated twice; all else is
+ * unchanged. Its encoding has no APART rows. The bytes of an encoding do not say which profile made them, so an assignment for
+ * hollyspool_encode_ordinary's rows is to be judged by hollyspool_assign_ordinary, and one for hollyspool_encode's by
+ * hollyspool_assign. */
+hollyspool_answer hollyspool_judge_ordinary(const uint8_t *book, size_t book_length, const uint8_t *model, size_t model_length);
+hollyspool_answer hollyspool_search_ordinary(const uint8_t *book, size_t book_length, uint64_t budget, uint8_t *out,
+                                             size_t out_length);
+hollyspool_answer hollyspool_encode_ordinary(const uint8_t *book, size_t book_length, uint8_t *out, size_t out_length);
+hollyspool_answer hollyspool_assign_ordinary(const uint8_t *book, size_t book_length, const uint8_t *assignment,
+                                             size_t assignment_length);
+
 /* Writes the book of the formula that the text means, over n locations and with path bound p. The book's contents say how long
  * it is; its variables are the text's names, numbered as they first appear. A text may be of any length. Output bytes change as
  * for search. */

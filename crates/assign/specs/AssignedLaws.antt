@@ -10,6 +10,7 @@ use native.Mathlib.Omega.{arith}
 use lib.Dec.{ltb}
 use lib.ListN.{length, getD, List·getD-eq-default}
 use borrow.Author.Tests.{lt-ltb, le-ltb}
+use Rattle.logic.specs.declared.Profile.{Profile}
 use Rattle.logic.specs.Checks.{Passes}
 use Rattle.logic.specs.CheckLaws.{Single, passes-at, answers-single}
 use Rattle.logic.specs.Reflect.{Is}
@@ -22,9 +23,9 @@ use Rattle.rows.specs.Assigned.{arrayIn, setIn, assigned, ValueOk, valueChecks,
 use Rattle.arrays.specs.UnpackLaws.{rows-fit}
 
 -- two answers that the statement allows are equal
-pub assigns-single : (s q : List ℕ) → Single (Assigns s q)
+pub assigns-single : (π : Profile) (s q : List ℕ) → Single (Assigns π s q)
 unfolding Assigns
-assigns-single s q = answers-single (assignChecks s q) (Verdict (SatisfiesBook s q)) (verdict-single (SatisfiesBook s q))
+assigns-single π s q = answers-single (assignChecks s q) (Verdict (SatisfiesBook π s q)) (verdict-single (SatisfiesBook π s q))
 
 -- a byte's test, as code works it out
 pub value-test : (v n a : ℕ) (q : List ℕ) (base end i : ℕ) (r : Bool) → base ≡ v + a * n → end ≡ 2 ^ n → Is r (((i < base) × (getD q i 0 ≤ n)) ⊎ ((base ≤ i) × (getD q i 0 < end))) → Is r (ValueOk v n a q i)

@@ -8,6 +8,7 @@ use native.Mathlib.Nat.{mul-le-mul-right}
 use native.Mathlib.Omega.{arith}
 use lib.Dec.{leb}
 use lib.ListN.{length}
+use Rattle.logic.specs.declared.Profile.{Profile}
 use Rattle.logic.specs.declared.Answer.{Answer}
 use Rattle.logic.specs.Numbers.{answer}
 use Rattle.logic.specs.Checks.{Checks, Passes, Answers}
@@ -20,7 +21,7 @@ use Rattle.logic.specs.Book.{bookFormula, most, varsOf, locsOf, nodes, root, bo
 use Rattle.logic.specs.KnownLaws.{counted}
 use Rattle.logic.specs.OpenLaws.{vars-low, locs-low, known, formula-is}
 use Rattle.logic.specs.Model.{Verdict, stackIn}
-use Rattle.cells.specs.Cells.{cells, Unnamed}
+use Rattle.cells.specs.Cells.{cells, Barred}
 use Rattle.rows.specs.Meaning.{Short, Satisfies}
 use Rattle.rows.specs.Table.{arraysIn, setsIn, arrays, sets, table, Encodable}
 use Rattle.rows.specs.LastRow.{satisfies-condition}
@@ -67,11 +68,11 @@ module _ (q f : List ℕ) (v n a b : ℕ) (j : Judging q f v n a b) where
   pub few-arrays : a ≤ mostArrays
   few-arrays = omega (arith, j .arrays, arrays-most v f (j .table))
 
-  module _ (s u : ℕ) where
+  module _ (π : Profile) (s u : ℕ) where
     abbrev pub setting : Setting
-    setting = record { v = v; n = n; arrays = a; sets = b; base = v + a * n; stack = s; unnamed = u }
+    setting = record { profile = π; v = v; n = n; arrays = a; sets = b; base = v + a * n; stack = s; barred = u }
 
-    pub ready : (cs : List (List ℕ)) → cells s ≡ stackIn v q → Unnamed v n (cells s) u → Unpacked v n a q cs → Ready setting q cs
+    pub ready : (cs : List (List ℕ)) → cells s ≡ stackIn v q → Barred π v n (cells s) u → Unpacked v n a q cs → Ready setting q cs
     ready cs e un up =
         record {
           few-vars = j .few-vars;
@@ -83,7 +84,7 @@ module _ (q f : List ℕ) (v n a b : ℕ) (j : Judging q f v n a b) where
           set-low = set-low v n a b q (j .passes);
           unpacked = up;
           stack = e;
-          unnamed = un;
+          barred = un;
         }
 
     pub within : Within setting (tree f (root f)) 0 0 1 1
@@ -91,30 +92,30 @@ module _ (q f : List ℕ) (v n a b : ℕ) (j : Judging q f v n a b) where
 
     -- the last row of the whole table: LONG decides, where the formula's holds
     module _ (p : ℕ) (r : Told) (t : Judged setting q (tree f (root f)) 0 0 1 1 r) where
-      pub long-satisfies : r .holds ≡ true → (x : Bool) → Is x (Short (assigned v n a q .array 0) (assigned v n a q .set 0) p) → Is x (Satisfies v (assigned v n a q) (table n p (tree f (root f))))
+      pub long-satisfies : r .holds ≡ true → (x : Bool) → Is x (Short (assigned v n a q .array 0) (assigned v n a q .set 0) p) → Is x (Satisfies v (assigned v n a q) (table π n p (tree f (root f))))
       long-satisfies e x l =
-          let c = satisfies-condition v n p (assigned v n a q) (tree f (root f)) in
+          let c = satisfies-condition π v n p (assigned v n a q) (tree f (root f)) in
           record { to = λ y. c .1 (t .holds .to e, l .to y); from = λ y. l .from (c .0 y .1) }
 
-      pub not-satisfied : r .holds ≡ false → Is false (Satisfies v (assigned v n a q) (table n p (tree f (root f))))
+      pub not-satisfied : r .holds ≡ false → Is false (Satisfies v (assigned v n a q) (table π n p (tree f (root f))))
       not-satisfied e =
-          let c = satisfies-condition v n p (assigned v n a q) (tree f (root f)) in
+          let c = satisfies-condition π v n p (assigned v n a q) (tree f (root f)) in
           record { to = λ y. false-true y; from = λ y. absurd (fails (r .holds) (t .holds) e (c .0 y .0)) }
 
 -- ---- the judge's answer, from the answers of its steps
 
-pub assigns-book : (s q : List ℕ) (a : Answer) → Reads s a → ¬ (a .number ≡ 0) → Assigns s q a
+pub assigns-book : (π : Profile) (s q : List ℕ) (a : Answer) → Reads s a → ¬ (a .number ≡ 0) → Assigns π s q a
 unfolding Reads Assigns
-assigns-book s q a r w = answers-refused (bookChecks s) (Verdict (SatisfiesBook s q)) (assignRest s q) a r w
+assigns-book π s q a r w = answers-refused (bookChecks s) (Verdict (SatisfiesBook π s q)) (assignRest s q) a r w
 
 -- f is the formula of an accepted book, and v, n and p are its bounds
-module _ (s f q : List ℕ) (v n p : ℕ) (w : Bodies s f v n p) where
+module _ (π : Profile) (s f q : List ℕ) (v n p : ℕ) (w : Bodies s f v n p) where
   encodable-is : (t : Bool) → Is t (Encodable (tree f (root f))) → Is t (Encodable (bookFormula s))
   encodable-is t i = subst (λ (F : Form). Is t (Encodable F)) (formula-is s f v n p w) i
 
-  pub assigns-19 : (t : Bool) (a : Answer) → Is t (Encodable (tree f (root f))) → t ≡ false → a ≡ answer 19 0 → Assigns s q a
+  pub assigns-19 : (t : Bool) (a : Answer) → Is t (Encodable (tree f (root f))) → t ≡ false → a ≡ answer 19 0 → Assigns π s q a
   unfolding Assigns Accepted Answers
-  assigns-19 t a i e d = answers-after (bookChecks s) (assignRest s q) (Verdict (SatisfiesBook s q)) a (w .accepted) (inl (fails t (encodable-is t i) e, d))
+  assigns-19 t a i e d = answers-after (bookChecks s) (assignRest s q) (Verdict (SatisfiesBook π s q)) a (w .accepted) (inl (fails t (encodable-is t i) e, d))
 
   module _ (t : Bool) (i : Is t (Encodable (tree f (root f)))) (e : t ≡ true) (x y : ℕ) (ex : x ≡ arrays (tree f (root f))) (ey : y ≡ sets (tree f (root f))) where
     ofBook : Checks
@@ -124,13 +125,13 @@ module _ (s f q : List ℕ) (v n p : ℕ) (w : Bodies s f v n p) where
     unfolding ofBook
     same-checks = rw (w .vars, w .locs, ex, ey, w .formula)
 
-    after-19 : (a : Answer) → Answers ofBook (Verdict (SatisfiesBook s q)) a → Assigns s q a
+    after-19 : (a : Answer) → Answers ofBook (Verdict (SatisfiesBook π s q)) a → Assigns π s q a
     unfolding ofBook Assigns Accepted Answers
-    after-19 a r = answers-after (bookChecks s) (assignRest s q) (Verdict (SatisfiesBook s q)) a (w .accepted) (inr (encodable-is t i .to e, r))
+    after-19 a r = answers-after (bookChecks s) (assignRest s q) (Verdict (SatisfiesBook π s q)) a (w .accepted) (inr (encodable-is t i .to e, r))
 
-    pub assigns-range : (a : Answer) → Answers (assignmentChecks v n x y q) Yes a → ¬ (a .number ≡ 0) → Assigns s q a
+    pub assigns-range : (a : Answer) → Answers (assignmentChecks v n x y q) Yes a → ¬ (a .number ≡ 0) → Assigns π s q a
     assigns-range a r z =
-        after-19 a (subst (λ (c : Checks). Answers c (Verdict (SatisfiesBook s q)) a) same-checks (answers-other (assignmentChecks v n x y q) (Verdict (SatisfiesBook s q)) a r z))
+        after-19 a (subst (λ (c : Checks). Answers c (Verdict (SatisfiesBook π s q)) a) same-checks (answers-other (assignmentChecks v n x y q) (Verdict (SatisfiesBook π s q)) a r z))
 
     module _ (b : Answer) (r : Answers (assignmentChecks v n x y q) Yes b) (z : b .number ≡ 0) where
       passes : Passes (assignmentChecks v n x y q)
@@ -140,7 +141,7 @@ module _ (s f q : List ℕ) (v n p : ℕ) (w : Bodies s f v n p) where
       pub judging : Judging q f v n x y
       judging = record { table = known s f v n p w; few-vars = vars-low s f v n p w; few-locs = locs-low s f v n p w; arrays = ex; sets = ey; passes = passes }
 
-      pub assigns-verdict : (a : Answer) → Verdict (Satisfies v (assigned v n x q) (table n p (tree f (root f)))) a → Assigns s q a
+      pub assigns-verdict : (a : Answer) → Verdict (Satisfies v (assigned v n x q) (table π n p (tree f (root f)))) a → Assigns π s q a
       assigns-verdict a d =
-          let same : Satisfies v (assigned v n x q) (table n p (tree f (root f))) ≡ SatisfiesBook s q = rw (w .vars, w .locs, ex, w .path, w .formula) in
-          after-19 a (answers-passed ofBook (Verdict (SatisfiesBook s q)) a (subst Passes same-checks passes) (subst (λ (P : Type 0). Verdict P a) same d))
+          let same : Satisfies v (assigned v n x q) (table π n p (tree f (root f))) ≡ SatisfiesBook π s q = rw (w .vars, w .locs, ex, w .path, w .formula) in
+          after-19 a (answers-passed ofBook (Verdict (SatisfiesBook π s q)) a (subst Passes same-checks passes) (subst (λ (P : Type 0). Verdict P a) same d))

@@ -9,6 +9,7 @@ use native.Mathlib.Omega.{arith}
 use lib.ListN.{length, getD}
 use lib.Seq.{ext-getD}
 use borrow.Author.Tests.{lt-ltb, eq-eqb, ne-eqb}
+use Rattle.logic.specs.declared.Profile.{Profile}
 use Rattle.logic.specs.declared.Answer.{Answer}
 use Rattle.logic.specs.Numbers.{answer}
 use Rattle.logic.specs.Checks.{Passes}
@@ -41,19 +42,19 @@ few-locations : (s : List ℕ) → Passes (bookChecks s) → locsOf s < 255
 few-locations s ok = let w = accepted-whole s (unfold Accepted in ok) in omega (arith, w .bounds .locs)
 
 -- (a) every assignment that satisfies the table of a book has a model that fits the book: "the stack and array 0 on set 0"
-pub satisfied-fits : (s q : List ℕ) (a : Answer) → Assigns s q a → a .number ≡ 0 → Judges s (modelIn s q) (answer 0 0)
+pub satisfied-fits : (π : Profile) (s q : List ℕ) (a : Answer) → Assigns π s q a → a .number ≡ 0 → Judges π s (modelIn s q) (answer 0 0)
 unfolding Assigns Judges Passes
-satisfied-fits s q a p e =
+satisfied-fits π s q a p e =
     let v = varsOf s in
     let n = locsOf s in
     let k = arrays (bookFormula s) in
-    let y = book-zero s (assignRest s q) (Verdict (SatisfiesBook s q)) a (assignment-refuses s q) p e in
+    let y = book-zero s (assignRest s q) (Verdict (SatisfiesBook π s q)) a (assignment-refuses s q) p e in
     let r = assigned-in-range v n k (sets (bookFormula s)) q (y .1 .0 .1) in
     let few = few-locations s (y .0) in
-    let f = assignment-fits v n (pathOf s) (bookFormula s) (y .1 .0 .0) (assignedIn s q) r (verdict-zero (SatisfiesBook s q) a (y .1 .1) e) in
-    answers-passed (judgeChecks s (modelIn s q)) (Verdict (FitsBook s (modelIn s q))) (answer 0 0)
+    let f = assignment-fits π v n (pathOf s) (bookFormula s) (y .1 .0 .0) (assignedIn s q) r (verdict-zero (SatisfiesBook π s q) a (y .1 .1) e) in
+    answers-passed (judgeChecks s (modelIn s q)) (Verdict (FitsBook π s (modelIn s q))) (answer 0 0)
     (passes-then (bookChecks s) (modelChecks v n (modelIn s q)) (y .0) (model-of-passes v n k q r few (omega arith)))
-    (inl (subst₂ (λ (x y : Map). Fits v n (pathOf s) (bookFormula s) x y) (sym (model-of-stack v n k q r few (omega arith))) (sym (model-of-heap v n k q r few (omega arith))) f, refl))
+    (inl (subst₂ (λ (x y : Map). Fits π v n (pathOf s) (bookFormula s) x y) (sym (model-of-stack v n k q r few (omega arith))) (sym (model-of-heap v n k q r few (omega arith))) f, refl))
 
 -- two models in range with the same stack and the same heap are the same bytes
 digit-same : (x y : ℕ) → digitOf x ≡ digitOf y → x ≡ y
@@ -79,32 +80,32 @@ model-same v n m m′ l l′ es eh = ext-getD 0 m m′ (l ∙ sym l′) (λ i h.
 
 -- (b) every model that fits a book that can be encoded comes from an assignment that satisfies the table of the book and has exactly
 -- that model
-pub record Comes (s m : List ℕ) : Type 0 where
+pub record Comes (π : Profile) (s m : List ℕ) : Type 0 where
   pub bytes : List ℕ
-  pub satisfies : Assigns s bytes (answer 0 0)
+  pub satisfies : Assigns π s bytes (answer 0 0)
   pub model : modelIn s bytes ≡ m
 
-pub fits-satisfied : (s m : List ℕ) (a : Answer) → Judges s m a → a .number ≡ 0 → Encodable (bookFormula s) → Comes s m
+pub fits-satisfied : (π : Profile) (s m : List ℕ) (a : Answer) → Judges π s m a → a .number ≡ 0 → Encodable (bookFormula s) → Comes π s m
 unfolding Assigns Judges Passes
-fits-satisfied s m a p e c =
+fits-satisfied π s m a p e c =
     let v = varsOf s in
     let n = locsOf s in
     let k = arrays (bookFormula s) in
     let b = sets (bookFormula s) in
-    let y = book-zero s (modelChecks v n m) (Verdict (FitsBook s m)) a (model-refuses v n m) p e in
+    let y = book-zero s (modelChecks v n m) (Verdict (FitsBook π s m)) a (model-refuses v n m) p e in
     let few = few-locations s (y .0) in
-    let f = fits-assignment v n (pathOf s) (bookFormula s) c (stackIn v m) (heapIn v n m) (model-stack v n m (y .1 .0)) (model-heap v n m (y .1 .0)) (verdict-zero (FitsBook s m) a (y .1 .1) e) in
+    let f = fits-assignment π v n (pathOf s) (bookFormula s) c (stackIn v m) (heapIn v n m) (model-stack v n m (y .1 .0)) (model-heap v n m (y .1 .0)) (verdict-zero (FitsBook π s m) a (y .1 .1) e) in
     let q = bytesOf v n k b (f .is) in
     let g = bytes-agree v n k b (f .is) (f .in-range) in
     let ok = bytes-pass v n k b (f .is) (f .in-range) in
     let r = assigned-in-range v n k b q ok in
-    let old = satisfies-condition v n (pathOf s) (f .is) (bookFormula s) .0 (f .satisfies) in
+    let old = satisfies-condition π v n (pathOf s) (f .is) (bookFormula s) .0 (f .satisfies) in
     let heap : modelHeap (f .is) ≡ modelHeap (assigned v n k q) = ap₂ on (g .array 0 (omega arith)) (g .set 0 (omega arith)) in
-    let sat = satisfies-condition v n (pathOf s) (assigned v n k q) (bookFormula s) .1
-    (condition-kept v n (bookFormula s) (f .is) (assigned v n k q) 0 0 1 1 (omega arith) (omega arith) g (old .0), subst (NoLongPath (pathOf s)) heap (old .1)) in
+    let sat = satisfies-condition π v n (pathOf s) (assigned v n k q) (bookFormula s) .1
+    (condition-kept π v n (bookFormula s) (f .is) (assigned v n k q) 0 0 1 1 (omega arith) (omega arith) g (old .0), subst (NoLongPath (pathOf s)) heap (old .1)) in
     record {
       bytes = q;
-      satisfies = answers-passed (assignChecks s q) (Verdict (SatisfiesBook s q)) (answer 0 0)
+      satisfies = answers-passed (assignChecks s q) (Verdict (SatisfiesBook π s q)) (answer 0 0)
           (passes-then (bookChecks s) (assignRest s q) (y .0) (c, ok)) (inl (sat, refl));
       model = model-same v n (modelIn s q) m (model-of-passes v n k q r few (omega arith) .0) (y .1 .0 .0)
           (model-of-stack v n k q r few (omega arith) ∙ sym (g .stack) ∙ f .stack)

@@ -1,13 +1,14 @@
 // The judge of assignments: whether an assignment satisfies the table of a book, without a byte of the table being written.
 use arrays::unpack;
 use book::open;
-use cells::unnamed;
+use cells::barred;
 use contents::part;
 use encodable::encodable;
 use leaves::answer_of;
 use leaves::long;
 use leaves::wide;
 use logic::Answer;
+use logic::Profile;
 use packing::packed;
 use rowjudge::Setting;
 use rowjudge::long_holds;
@@ -87,19 +88,29 @@ fn in_range(q: &[u8], v: usize, n: usize, arrays: usize, sets: usize) -> Answer
 }
 
 // Whether an assignment in range satisfies the table of the formula.
-fn satisfies(q: &[u8], f: &[u8], v: u64, n: u64, p: u64, arrays: usize, sets: usize) -> bool
+fn satisfies(
+    profile: Profile,
+    q: &[u8],
+    f: &[u8],
+    v: u64,
+    n: u64,
+    p: u64,
+    arrays: usize,
+    sets: usize,
+) -> bool
     requires { ⌜ Judging (now q) (now f) v n arrays sets ⌝ }
-    ensures { λ r. ⌜ Is r (Satisfies v (assigned v n arrays (now (q .entry))) (table n p (tree (now (f .entry)) (root (now (f .entry)))))) ⌝ }
+    ensures { λ r. ⌜ Is r (Satisfies v (assigned v n arrays (now (q .entry))) (table profile n p (tree (now (f .entry)) (root (now (f .entry)))))) ⌝ }
 {
     let stack = packed(q, 0, v as usize, false);
     let g = Setting {
+        profile,
         v,
         n,
         arrays,
         sets,
         base: v as usize + arrays * (n as usize),
         stack,
-        unnamed: unnamed(v, n, stack),
+        barred: barred(profile, v, n, stack),
     };
     let values = unpack(q, v as usize, n as usize, arrays);
     let t = node(q, &values, f, g, f.len() / 3 - 1, 0, 0, 1, 1);
@@ -110,10 +121,10 @@ fn satisfies(q: &[u8], f: &[u8], v: u64, n: u64, p: u64, arrays: usize, sets: us
     }
 }
 
-// Whether the assignment satisfies the table of the book: 0 or 1, or the first refusal of the book (10 to 16), of its formula
-// (19) or of the assignment (21, 22).
-pub fn assign(book: &[u8], assignment: &[u8]) -> Answer
-    ensures { λ r. ⌜ Assigns (now (book .entry)) (now (assignment .entry)) r ⌝ }
+// Whether the assignment satisfies the table of the book in the profile: 0 or 1, or the first refusal of the book (10 to 16),
+// of its formula (19) or of the assignment (21, 22).
+pub fn assign(profile: Profile, book: &[u8], assignment: &[u8]) -> Answer
+    ensures { λ r. ⌜ Assigns profile (now (book .entry)) (now (assignment .entry)) r ⌝ }
 {
     let opened = open(book);
     let first = opened.answer;
@@ -132,7 +143,7 @@ pub fn assign(book: &[u8], assignment: &[u8]) -> Answer
     if second.number != logic::YES {
         return second;
     }
-    if satisfies(assignment, f, v, n, opened.p, arrays, sets) {
+    if satisfies(profile, assignment, f, v, n, opened.p, arrays, sets) {
         answer_of(logic::YES, 0)
     } else {
         answer_of(logic::NO, 0)

@@ -6,7 +6,8 @@ use mathlib.Core.Logic.{_⊎_}
 use Prim.Native.Nat.{ℕ, zero, suc, _^_, _<_, _≤_}
 use lib.Dec.{eqb}
 use lib.Bits.{bitAnd}
-use Rattle.logic.specs.Heap.{Map, Value, Locs, Named}
+use Rattle.logic.specs.declared.Profile.{Profile}
+use Rattle.logic.specs.Heap.{Map, Value, Locs, MayMeet}
 use Rattle.logic.specs.Tests.{pick, digit, inPart, allocated}
 use Rattle.logic.specs.Reflect.{Is}
 
@@ -44,10 +45,10 @@ pub record Taken (w r : ℕ) : Type 0 where
   pub small : r < full
   pub member : (ℓ : ℕ) → inPart r ℓ ≡ allocated (cells w) ℓ
 
--- r is the set of the locations that are not named
-pub record Unnamed (v n : ℕ) (s : Map) (r : ℕ) : Type 0 where
+-- r is the set of the locations at which two heaps may not meet: in the strong profile, of those that are not named
+pub record Barred (π : Profile) (v n : ℕ) (s : Map) (r : ℕ) : Type 0 where
   pub small : r < full
-  pub member : (ℓ : ℕ) → Is (inPart r ℓ) ((ℓ ≤ n) × (¬ Named v s ℓ))
+  pub member : (ℓ : ℕ) → Is (inPart r ℓ) ((ℓ ≤ n) × (¬ MayMeet π v s ℓ))
 
 -- a cell at ℓ with digit d has j for its location or for its value
 abbrev pub Touches : ℕ → ℕ → ℕ → Type 0

@@ -10,11 +10,12 @@ use native.Mathlib.Omega.{arith}
 use lib.Dec.{eqb}
 use lib.Bits.{bitAnd, bitOr, bitXor, and-le-r, or-shr, and-zero-l}
 use borrow.Author.Tests.{eq-eqb, ne-eqb}
-use Rattle.logic.specs.Heap.{Map, Heap, Locs, StronglyDisjoint}
-use Rattle.logic.specs.Tests.{andb, orb, pick, digit, inPart, part, rest, named}
+use Rattle.logic.specs.declared.Profile.{Profile}
+use Rattle.logic.specs.Heap.{Map, Heap, Locs, Disjoint}
+use Rattle.logic.specs.Tests.{andb, orb, pick, digit, inPart, part, rest, mayMeet}
 use Rattle.logic.specs.Reflect.{Is, false-true, is-iff, is-self, is-eq, is-and, is-or, decided}
-use Rattle.logic.specs.Agree.{locs-low, is-named}
-use Rattle.cells.specs.Cells.{most, full, word, cells, Placed, Spread, Unnamed, Touches, Touched, Tabled, Among, Folded, Clear}
+use Rattle.logic.specs.Agree.{locs-low, is-may-meet}
+use Rattle.cells.specs.Cells.{most, full, word, cells, Placed, Spread, Barred, Touches, Touched, Tabled, Among, Folded, Clear}
 use Rattle.cells.specs.Loops.{Tabling}
 use Rattle.cells.specs.Bits.{digit-shr}
 use Rattle.cells.specs.Sets.{in-nil, in-and, in-or, in-nothing, in-just, is-meet-nothing}
@@ -229,19 +230,19 @@ module _ (u w t m e : ℕ) (k : Tabled u w t) (sp : Spread m e) where
       go true p q = inr (p, q)
       go false p q = inl (p, q)
 
--- ---- strong disjointness: the two heaps' locations have none of the unnamed ones in common
-module _ (v n u : ℕ) (s : Map) (un : Unnamed v n s u) where
+-- ---- disjointness as the profile asks: the two heaps' locations have none of the barred ones in common
+module _ {π : Profile} (v n u : ℕ) (s : Map) (un : Barred π v n s u) where
   abbrev pub Meets : Map → Map → Type 0
   Meets g h = (j : ℕ) × Locs g j × Locs h j × (inPart u j ≡ true)
 
-  pub disjoint-meets : (g h : Map) → StronglyDisjoint v s g h → ¬ Meets g h
-  disjoint-meets g h d q = un .member (q .0) .to (q .3) .1 (d .named (q .0) (q .1) (q .2))
+  pub disjoint-meets : (g h : Map) → Disjoint π v s g h → ¬ Meets g h
+  disjoint-meets g h d q = un .member (q .0) .to (q .3) .1 (d .meet (q .0) (q .1) (q .2))
 
-  pub meets-disjoint : (g h : Map) → Heap n g → ((ℓ : ℕ) → (g ℓ ≡ 0) ⊎ (h ℓ ≡ 0)) → ¬ Meets g h → StronglyDisjoint v s g h
+  pub meets-disjoint : (g h : Map) → Heap n g → ((ℓ : ℕ) → (g ℓ ≡ 0) ⊎ (h ℓ ≡ 0)) → ¬ Meets g h → Disjoint π v s g h
   meets-disjoint g h k free f =
       record {
         alone = λ ℓ both. ⊎-elim (λ e. both .0 e) (λ e. both .1 e) (free ℓ);
-        named = λ ℓ a b. ⊎-elim (λ q. q) (λ q. absurd (f (ℓ, a, b, un .member ℓ .from (locs-low n g ℓ k a, q)))) (decided (named v s ℓ) (is-named v s ℓ));
+        meet = λ ℓ a b. ⊎-elim (λ q. q) (λ q. absurd (f (ℓ, a, b, un .member ℓ .from (locs-low n g ℓ k a, q)))) (decided (mayMeet π v s ℓ) (is-may-meet π v s ℓ));
       }
 
   among-locs : (w t j : ℕ) → Tabled u w t → Among t j → Locs (cells w) j × (inPart u j ≡ true)
@@ -251,7 +252,7 @@ module _ (v n u : ℕ) (s : Map) (un : Unnamed v n s u) where
   locs-among w t j k a o = let q = locs-touches (cells w) j a in (q .0, k (q .0) j .from (q .1, o))
 
   -- as code works it out, for two parts of a heap
-  pub is-disjoint : (r : Bool) (g h t q : ℕ) → Heap n (cells g) → ((ℓ : ℕ) → (cells g ℓ ≡ 0) ⊎ (cells h ℓ ≡ 0)) → Tabled u g t → Tabled u h q → Is r (Clear t q) → Is r (StronglyDisjoint v s (cells g) (cells h))
+  pub is-disjoint : (r : Bool) (g h t q : ℕ) → Heap n (cells g) → ((ℓ : ℕ) → (cells g ℓ ≡ 0) ⊎ (cells h ℓ ≡ 0)) → Tabled u g t → Tabled u h q → Is r (Clear t q) → Is r (Disjoint π v s (cells g) (cells h))
   is-disjoint r g h t q kg free tg th i =
       is-iff i
       (λ c. meets-disjoint (cells g) (cells h) kg free (λ m. c (m .0) (locs-among g t (m .0) tg (m .1) (m .3)) (locs-among h q (m .0) th (m .2) (m .3))))

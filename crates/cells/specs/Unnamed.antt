@@ -1,4 +1,4 @@
--- Laws of the set of the locations that are not named, as code works it out. Assumes nothing.
+-- Laws of the sets of the locations that are not named, and that are barred, as code works them out. Assumes nothing.
 use mathlib.Core.Path.{_≡_, sym, subst, _∙_, ap}
 use mathlib.Core.Bool.{Bool, true, not}
 use mathlib.Core.Logic.{_⊎_, inl, inr, ⊎-elim}
@@ -10,10 +10,11 @@ use native.Mathlib.Omega.{arith}
 use lib.Dec.{leb}
 use lib.Bits.{bitOr, bitXor, or-lt, xor-lt}
 use borrow.Author.Tests.{le-leb, lt-leb}
-use Rattle.logic.specs.Heap.{Named}
+use Rattle.logic.specs.declared.Profile.the-variants.{Strong, Ordinary}
+use Rattle.logic.specs.Heap.{Map, Named}
 use Rattle.logic.specs.Tests.{pick, pickb, inPart}
 use Rattle.logic.specs.Reflect.{Is, false-true, is-iff, is-self, is-eq, is-or, is-not}
-use Rattle.cells.specs.Cells.{most, full, cells, Unnamed}
+use Rattle.cells.specs.Cells.{most, full, cells, Barred}
 use Rattle.cells.specs.Loops.{LocationOf, Naming}
 use Rattle.cells.specs.Sets.{in-nil, in-or, in-xor, in-pow, in-nothing, in-past, in-all, in-half}
 use Rattle.cells.specs.Packing.{cells-nil, first-field, next-field}
@@ -85,7 +86,7 @@ naming-next v n s x i m r h e small q =
         field (suc (suc y)) a b c = inr (suc y, omega arith, omega arith, next-field x y ∙ c)
 
 -- every variable is passed
-pub naming-last : (v n s x i m p : ℕ) → n ≤ most → i ≤ 0 → p ≡ 2 ^ (n + 1) → Naming v n s x i m → Unnamed v n (cells s) (bitXor (p - 1) m / 2)
+pub naming-last : (v n s x i m p : ℕ) → n ≤ most → i ≤ 0 → p ≡ 2 ^ (n + 1) → Naming v n s x i m → Barred Strong v n (cells s) (bitXor (p - 1) m / 2)
 naming-last v n s x i m p few z e q = rw (e, add-one) (record { small = half; member = each })
   where
     all-bits : 2 ^ suc n - 1 < 2 ^ suc n
@@ -121,3 +122,8 @@ naming-last v n s x i m p few z e q = rw (e, add-one) (record { small = half; me
         go (no l) =
             rw (in-past (suc n) (2 ^ suc n - 1) (suc (suc j)) all-bits (omega arith), in-past (suc n) m (suc (suc j)) (q .small) (omega arith))
             (record { to = λ t. false-true t; from = λ o. absurd (l (o .0)) })
+
+-- the ordinary profile bars no location
+pub barred-none : (v n : ℕ) (s : Map) → Barred Ordinary v n s 0
+barred-none v n s =
+    record { small = omega arith; member = λ ℓ. record { to = λ e. false-true (sym (in-nothing ℓ) ∙ e); from = λ q. absurd (q .1 tt) } }

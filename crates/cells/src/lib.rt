@@ -1,14 +1,16 @@
 // Stacks, heaps and sets of locations, each in one number, so that a part of a heap is a mask away. specs/Cells.antt says
 // which numbers these are.
+use logic::Profile;
 ghost use mathlib.Core.Path.{_≡_};
 ghost use Prim.Native.Nat.{suc, _≤_, _<_, _^_};
 ghost use lib.Bits.{bitAnd, bitXor};
 ghost use lib.Dec.{leb};
 ghost use Rattle.logic.specs.Heap.{Heap, Empty};
+ghost use Rattle.logic.specs.declared.Profile.the-variants.{Strong};
 ghost use Rattle.logic.specs.Holds.{Points, Segment};
 ghost use Rattle.logic.specs.Tests.{pick};
 ghost use Rattle.logic.specs.Reflect.{Is};
-ghost use Rattle.cells.specs.Cells.{most, full, cells, Placed, Spread, Taken, Unnamed, Touched, Tabled, Folded, Clear, Values, Met, Source, SourceBelow, Target};
+ghost use Rattle.cells.specs.Cells.{most, full, cells, Placed, Spread, Taken, Barred, Touched, Tabled, Folded, Clear, Values, Met, Source, SourceBelow, Target};
 
 // The most locations, and the most variables, that fit in one number.
 pub const MOST: u64 = 8;
@@ -216,9 +218,9 @@ fn bit_up_to(d: u64, n: u64) -> u64
 }
 
 // The locations up to n that are not named. Location l is noted in bit l; the halving drops nil, which is in no set.
-pub fn unnamed(v: u64, n: u64, s: u64) -> u64
+fn unnamed(v: u64, n: u64, s: u64) -> u64
     requires { ⌜ (v ≤ most) × (n ≤ most) ⌝ }
-    ensures { λ r. ⌜ Unnamed v n (cells s) r ⌝ }
+    ensures { λ r. ⌜ Barred Strong v n (cells s) r ⌝ }
 {
     let mut x = s;
     let mut named: u64 = 0;
@@ -229,4 +231,15 @@ pub fn unnamed(v: u64, n: u64, s: u64) -> u64
         i -= 1;
     }
     ((bit(n + 1) - 1) ^ named) / 2
+}
+
+// The locations at which two heaps may not meet: the strong profile bars those that are not named, the ordinary one none.
+pub fn barred(profile: Profile, v: u64, n: u64, s: u64) -> u64
+    requires { ⌜ (v ≤ most) × (n ≤ most) ⌝ }
+    ensures { λ r. ⌜ Barred profile v n (cells s) r ⌝ }
+{
+    match profile {
+        Profile::Strong => unnamed(v, n, s),
+        Profile::Ordinary => 0,
+    }
 }

@@ -1,6 +1,7 @@
 -- How many rows, arrays and sets an accepted table's formula has at the most. Assumes nothing.
 use mathlib.Core.List.{List}
 use Prim.Native.Nat.{ℕ, zero-le, _+_, _≤_}
+use Rattle.logic.specs.declared.Profile.{Profile}
 use Rattle.logic.specs.Table.{tree}
 use Rattle.logic.specs.Book.{most, nodes, root, Known}
 use Rattle.logic.specs.KnownLaws.{last-node}
@@ -10,8 +11,8 @@ use Rattle.rows.specs.BoundsLaws as trees
 
 module _ (v : ℕ) (f : List ℕ) (w : Known v f) where
   -- with LONG and its AND
-  pub rows-most : (n : ℕ) → n ≤ most → rowsIn n (tree f (root f)) + 2 ≤ mostRows
-  rows-most n low = trees.rows-few v n f (nodes f) (w .sound) (w .tree) (root f) (last-node v f w) (w .few) low
+  pub rows-most : (π : Profile) (n : ℕ) → n ≤ most → rowsIn π n (tree f (root f)) + 2 ≤ mostRows
+  rows-most π n low = trees.rows-few v n f (nodes f) (w .sound) (w .tree) (root f) (last-node v f w) (w .few) low π
 
   -- whatever the number of locations is
   pub arrays-most : arrays (tree f (root f)) ≤ mostArrays

@@ -9,6 +9,7 @@ use native.Mathlib.Omega.{arith}
 use lib.ListN.{length, take, drop, length-drop, length-append, drop-of-length-le}
 use lib.Seq.{drop-drop, take-at, drop-at, take-all}
 use borrow.Author.Tests.{le-leb, lt-leb, ne-eqb}
+use Rattle.logic.specs.declared.Profile.{Profile}
 use Rattle.logic.specs.declared.Answer.{Answer}
 use Rattle.logic.specs.Numbers.{answer}
 use Rattle.logic.specs.Checks.{_then_, Answers}
@@ -23,7 +24,7 @@ use Rattle.logic.specs.OpenLaws.{locs-low, known, formula-is}
 use Rattle.rows.specs.declared.Next.{Next}
 use Rattle.rows.specs.Row.{bytesOf}
 use Rattle.rows.specs.Row.Row.{LONG}
-use Rattle.rows.specs.Table.{Encodable, start, also, rowsIn, rowsOf, table}
+use Rattle.rows.specs.Table.{Encodable, start, also, apartRows, rowsIn, rowsOf, table}
 use Rattle.rows.specs.TableLaws.{rows-long, table-long}
 use Rattle.rows.specs.Bounds.{mostRows, ownRows}
 use Rattle.rows.specs.BoundsLaws.{rows-add}
@@ -38,34 +39,34 @@ use Rattle.encoder.specs.Writable.{RoomTable, Writable}
 -- ---- how many rows there are
 
 -- a node's own, as the code goes through the operators
-module _ (n o : ℕ) where
-  pub own-pair : o ≤ 3 → ownRows n o ≡ 3
+module _ (π : Profile) (n o : ℕ) where
+  pub own-pair : o ≤ 3 → ownRows π n o ≡ 3
   unfolding ownRows
   own-pair l = rw (le-leb o 3 l)
 
-  pub own-ls : o ≡ 4 → ownRows n o ≡ n + 1 + n
+  pub own-ls : o ≡ 4 → ownRows π n o ≡ n + 1 + n
   unfolding ownRows
   own-ls e = rw e
 
-  pub own-one : 5 ≤ o → o ≤ 8 → ¬ (o ≡ 7) → ownRows n o ≡ 1
+  pub own-one : 5 ≤ o → o ≤ 8 → ¬ (o ≡ 7) → ownRows π n o ≡ 1
   unfolding ownRows
   own-one h l d = rw (lt-leb o 3 (omega arith), lt-leb o 4 h, ne-eqb o 7 d, le-leb o 8 l)
 
-  pub own-but : o ≡ 7 → ownRows n o ≡ 2
+  pub own-but : o ≡ 7 → ownRows π n o ≡ 2
   unfolding ownRows
   own-but e = rw e
 
-  pub own-sep : o ≡ 9 → ownRows n o ≡ 5
+  pub own-sep : o ≡ 9 → ownRows π n o ≡ 3 + apartRows π
   unfolding ownRows
   own-sep e = rw e
 
-  pub own-sept : o ≡ 10 → ownRows n o ≡ 7
+  pub own-sept : o ≡ 10 → ownRows π n o ≡ 5 + apartRows π
   unfolding ownRows
   own-sept e = rw e
 
 -- the sum over the nodes is the number of the formula's rows
-pub rows-are : (v : ℕ) (f : List ℕ) → Known v f → (n r : ℕ) → r ≡ sum (nodes f) (λ k. ownRows n (opOf f k)) → r + 2 ≡ rowsIn n (tree f (root f)) + 2
-rows-are v f w n r e = ap (λ (k : ℕ). k + 2) (e ∙ sym (counted v f w (rowsIn n) (λ o x y. ownRows n o) (rows-add n)))
+pub rows-are : (π : Profile) (v : ℕ) (f : List ℕ) → Known v f → (n r : ℕ) → r ≡ sum (nodes f) (λ k. ownRows π n (opOf f k)) → r + 2 ≡ rowsIn π n (tree f (root f)) + 2
+rows-are π v f w n r e = ap (λ (k : ℕ). k + 2) (e ∙ sym (counted v f w (rowsIn π n) (λ o x y. ownRows π n o) (rows-add π n)))
 
 -- ---- the whole book
 
@@ -88,56 +89,56 @@ part-written h bs o x y e d f =
     ∙ head-rows h bs o e
 
 -- the formula's rows, and behind them LONG and its AND
-module _ (n p : ℕ) (F : Form) (o : List ℕ) (h : RoomTable n F o) where
-  pub room-formula : Room n F start o
-  room-formula = record { space = space-less (rowsIn n F) (h .space) (omega arith); array = h .array; set = h .set }
+module _ (π : Profile) (n p : ℕ) (F : Form) (o : List ℕ) (h : RoomTable π n F o) where
+  pub room-formula : Room π n F start o
+  room-formula = record { space = space-less (rowsIn π n F) (h .space) (omega arith); array = h .array; set = h .set }
 
-  pub table-written : {t u : Next} {o₁ o₂ : List ℕ} → Encoded n F 0 0 start t o o₁ → Puts t 2 0 0 (bytesOf (also (t .row - 1) (LONG 0 0 p))) u o₁ o₂ → o₂ ≡ put 0 (bytesOf (table n p F)) o
+  pub table-written : {t u : Next} {o₁ o₂ : List ℕ} → Encoded π n F 0 0 start t o o₁ → Puts t 2 0 0 (bytesOf (also (t .row - 1) (LONG 0 0 p))) u o₁ o₂ → o₂ ≡ put 0 (bytesOf (table π n p F)) o
   table-written {t} q r =
-      let e : t .row - 1 ≡ rowsIn n F - 1 = omega (arith, row-after q) in
-      rows-rows (rowsOf n F 0 0 start) (also (rowsIn n F - 1) (LONG 0 0 p)) (rows-long n F 0 0 start) (omega (arith, h .space .out)) q
+      let e : t .row - 1 ≡ rowsIn π n F - 1 = omega (arith, row-after q) in
+      rows-rows (rowsOf π n F 0 0 start) (also (rowsIn π n F - 1) (LONG 0 0 p)) (rows-long π n F 0 0 start) (omega (arith, h .space .out)) q
       (puts-as refl refl refl (ap (λ (k : ℕ). bytesOf (also k (LONG 0 0 p))) e) r) .bytes
 
-module _ (f : List ℕ) (n r : ℕ) (o : List ℕ) (w : Writable f n r o) where
-  rows-low : rowsIn n (tree f (root f)) + 2 ≤ mostRows
-  rows-low = rows-most (w .known .0) f (w .known .1) n (w .locs)
+module _ (π : Profile) (f : List ℕ) (n r : ℕ) (o : List ℕ) (w : Writable π f n r o) where
+  rows-low : rowsIn π n (tree f (root f)) + 2 ≤ mostRows
+  rows-low = rows-most (w .known .0) f (w .known .1) π n (w .locs)
 
   pub bytes-low : 10 * r < 65536
   bytes-low = omega (arith, w .rows, rows-low)
 
   -- there is room behind the contents and the bounds, and numbers for the rows, arrays and sets
-  pub room-behind : (o′ : List ℕ) → length o′ ≡ length o - 14 → RoomTable n (tree f (root f)) o′
+  pub room-behind : (o′ : List ℕ) → length o′ ≡ length o - 14 → RoomTable π n (tree f (root f)) o′
   room-behind o′ e =
       let i = arrays-most (w .known .0) f (w .known .1) in
       let j = sets-most (w .known .0) f (w .known .1) in
       record { space = record { out = omega (arith, w .out, w .rows); row = omega (arith, rows-low) }; array = omega (arith, i); set = omega (arith, j) }
 
   pub book-written : (v p : ℕ) (x y : List ℕ) → x ≡ headOf 3 v n p (10 * r) ++ drop 14 o
-      → y ≡ put 0 (bytesOf (table n p (tree f (root f)))) (take (length x - 14) (drop 14 x))
-      → take 14 x ++ (y ++ drop (length x - 14) (drop 14 x)) ≡ put 0 (outBook v n p (table n p (tree f (root f)))) o
+      → y ≡ put 0 (bytesOf (table π n p (tree f (root f)))) (take (length x - 14) (drop 14 x))
+      → take 14 x ++ (y ++ drop (length x - 14) (drop 14 x)) ≡ put 0 (outBook v n p (table π n p (tree f (root f)))) o
   unfolding put
   book-written v p x y d q =
-      let e : 10 * r ≡ 10 * length (table n p (tree f (root f))) = ap (λ (k : ℕ). 10 * k) (w .rows ∙ sym (table-long n p (tree f (root f)))) in
-      part-written (headOf 3 v n p (10 * length (table n p (tree f (root f))))) (bytesOf (table n p (tree f (root f)))) o x y refl
+      let e : 10 * r ≡ 10 * length (table π n p (tree f (root f))) = ap (λ (k : ℕ). 10 * k) (w .rows ∙ sym (table-long π n p (tree f (root f)))) in
+      part-written (headOf 3 v n p (10 * length (table π n p (tree f (root f))))) (bytesOf (table π n p (tree f (root f)))) o x y refl
       (d ∙ ap (λ (k : ℕ). headOf 3 v n p k ++ drop 14 o) e) q
 
 -- ---- the encoder's answer, from the answers of its steps
 
-pub read-refused : (s o : List ℕ) (a : Answer) → Reads s a → ¬ (a .number ≡ 0) → Encodes s o a o
+pub read-refused : (π : Profile) (s o : List ℕ) (a : Answer) → Reads s a → ¬ (a .number ≡ 0) → Encodes π s o a o
 unfolding Reads
-read-refused s o a q f =
-    record { number = answers-refused (bookChecks s) Yes (encodeRest s o) a q f; written = λ e. absurd (f e); refused = λ e. refl }
+read-refused π s o a q f =
+    record { number = answers-refused (bookChecks s) Yes (encodeRest π s o) a q f; written = λ e. absurd (f e); refused = λ e. refl }
 
 -- f is the formula of an accepted book, and v, n and p are its bounds
-module _ (s o f : List ℕ) (v n p : ℕ) (q : Bodies s f v n p) where
-  after-book : (a : Answer) → Answers (encodeRest s o) Yes a → Answers (bookChecks s then encodeRest s o) Yes a
+module _ (π : Profile) (s o f : List ℕ) (v n p : ℕ) (q : Bodies s f v n p) where
+  after-book : (a : Answer) → Answers (encodeRest π s o) Yes a → Answers (bookChecks s then encodeRest π s o) Yes a
   unfolding Accepted
-  after-book a r = answers-after (bookChecks s) (encodeRest s o) Yes a (q .accepted) r
+  after-book a r = answers-after (bookChecks s) (encodeRest π s o) Yes a (q .accepted) r
 
   encodable-is : (b : Bool) → Is b (Encodable (tree f (root f))) → Is b (Encodable (bookFormula s))
   encodable-is b i = subst (λ (F : Form). Is b (Encodable F)) (formula-is s f v n p q) i
 
-  pub not-encodable : (b : Bool) (a : Answer) → Is b (Encodable (tree f (root f))) → b ≡ false → a ≡ answer 19 0 → Encodes s o a o
+  pub not-encodable : (b : Bool) (a : Answer) → Is b (Encodable (tree f (root f))) → b ≡ false → a ≡ answer 19 0 → Encodes π s o a o
   unfolding Answers
   not-encodable b a i e d =
       record {
@@ -146,11 +147,11 @@ module _ (s o f : List ℕ) (v n p : ℕ) (q : Bodies s f v n p) where
         refused = λ z. refl;
       }
 
-  module _ (b : Bool) (i : Is b (Encodable (tree f (root f)))) (e : b ≡ true) (r : ℕ) (c : r ≡ rowsIn n (tree f (root f)) + 2) where
-    size : length (encodingOf s) ≡ 14 + 10 * r
-    size = let d : rowsIn n (tree f (root f)) ≡ rowsIn (locsOf s) (bookFormula s) = ap₂ rowsIn (q .locs) (formula-is s f v n p q) in omega (arith, encoding-long s)
+  module _ (b : Bool) (i : Is b (Encodable (tree f (root f)))) (e : b ≡ true) (r : ℕ) (c : r ≡ rowsIn π n (tree f (root f)) + 2) where
+    size : length (encodingOf π s) ≡ 14 + 10 * r
+    size = let d : rowsIn π n (tree f (root f)) ≡ rowsIn π (locsOf s) (bookFormula s) = ap₂ (rowsIn π) (q .locs) (formula-is s f v n p q) in omega (arith, encoding-long π s)
 
-    pub too-short : (a : Answer) → length o < 14 + 10 * r → a ≡ answer 20 0 → Encodes s o a o
+    pub too-short : (a : Answer) → length o < 14 + 10 * r → a ≡ answer 20 0 → Encodes π s o a o
     unfolding Answers
     too-short a l d =
         record {
@@ -159,10 +160,10 @@ module _ (s o f : List ℕ) (v n p : ℕ) (q : Bodies s f v n p) where
           refused = λ z. refl;
         }
 
-    pub writable : 14 + 10 * r ≤ length o → Writable f n r o
+    pub writable : 14 + 10 * r ≤ length o → Writable π f n r o
     writable l = record { known = (v, known s f v n p q); locs = locs-low s f v n p q; rows = c; out = l }
 
-    pub encoded : (a : Answer) (now : List ℕ) → 14 + 10 * r ≤ length o → now ≡ put 0 (outBook v n p (table n p (tree f (root f)))) o → a ≡ answer 0 0 → Encodes s o a now
+    pub encoded : (a : Answer) (now : List ℕ) → 14 + 10 * r ≤ length o → now ≡ put 0 (outBook v n p (table π n p (tree f (root f)))) o → a ≡ answer 0 0 → Encodes π s o a now
     unfolding Answers encodingOf put
     encoded a now l d g =
         record {
@@ -171,8 +172,8 @@ module _ (s o f : List ℕ) (v n p : ℕ) (q : Bodies s f v n p) where
           refused = λ z. absurd (z (ap (λ (r : Answer). r .number) g));
         }
       where
-        same : put 0 (outBook v n p (table n p (tree f (root f)))) o ≡ put 0 (encodingOf s) o
+        same : put 0 (outBook v n p (table π n p (tree f (root f)))) o ≡ put 0 (encodingOf π s) o
         same = unfold encodingOf in rw (q .vars, q .locs, q .path, q .formula)
 
-        front : put 0 (encodingOf s) o ≡ encodingOf s ++ drop (length (encodingOf s)) o
-        front = unfold put in ap (λ (k : ℕ). encodingOf s ++ drop k o) (zero-add (length (encodingOf s)))
+        front : put 0 (encodingOf π s) o ≡ encodingOf π s ++ drop (length (encodingOf π s)) o
+        front = unfold put in ap (λ (k : ℕ). encodingOf π s ++ drop k o) (zero-add (length (encodingOf π s)))

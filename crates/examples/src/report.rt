@@ -5,6 +5,7 @@
 // satisfies the formula's encoding and yields that model.
 use crate::sweep;
 use crate::sweep::Swept;
+use logic::Profile;
 use notation::front;
 use notation::front_of_page;
 ghost use Prim.Native.Nat.{_<_, _≤_};
@@ -52,7 +53,7 @@ fn stray(book: &[u8], bounds: [u8; 3]) -> u8 {
 // Whether the search answers what the second judge has found, to the last byte, or refuses a stray variable.
 fn same_search(book: &[u8], bounds: [u8; 3], swept: Swept) -> bool {
     let mut out = [0u8; 12];
-    let a = search::search(book, BUDGET, &mut out);
+    let a = search::search(Profile::Strong, book, BUDGET, &mut out);
     let x = stray(book, bounds);
     if x != 0 {
         return a.number == logic::STRAY_VARIABLE && a.place == x as u64;
@@ -96,7 +97,7 @@ fn searched(t: Tally, book: &[u8], bounds: [u8; 3], number: u64) -> Tally {
     let wanted = [0u8; 12];
     let swept = sweep::sweep(book, &wanted, bounds);
     let mut out = [0u8; 12];
-    let a = search::search(book, BUDGET, &mut out);
+    let a = search::search(Profile::Strong, book, BUDGET, &mut out);
     say(b", tried ");
     io::print_decimal(1, a.tried);
     end(t, a.number == number, book, bounds, swept)
@@ -112,7 +113,7 @@ fn judged(
     number: u64,
 ) -> Tally {
     let swept = sweep::sweep(book, wanted, bounds);
-    let a = model::judge(book, front(wanted, size));
+    let a = model::judge(Profile::Strong, book, front(wanted, size));
     let same = same_model(bounds, swept, a.number == logic::YES);
     end(t, a.number == number && same, book, bounds, swept)
 }
@@ -127,7 +128,7 @@ fn assigned(
     wanted: &[u8; 12],
 ) -> Tally {
     let swept = sweep::sweep(book, wanted, bounds);
-    let a = assign::assign(book, front(values, count));
+    let a = assign::assign(Profile::Strong, book, front(values, count));
     end(t, a.number == logic::YES && swept.fits, book, bounds, swept)
 }
 

@@ -3,6 +3,7 @@
 use crate::report::Tally;
 use crate::report::compared;
 use crate::report::run;
+use logic::Profile;
 use notation::front_of_page;
 
 const P1_BOOK: [u8; 17] = [2, 1, 11, 0, 3, 0, 2, 14, 0, 3, 0, 1, 1, 1, 3, 1, 1];
@@ -80,7 +81,7 @@ pub fn bytes_of_p1(t: Tally) -> Tally {
     let size = notation::book([1, 1, 1], b"x>x", &mut page);
     let with_book = compared(t, b"01 P1, the book", front_of_page(&page, size), &book);
     let mut rows = [0u8; 64];
-    encoder::encode(&book, &mut rows);
+    encoder::encode(Profile::Strong, &book, &mut rows);
     let encoding = P1_ENCODING;
     let with_rows = compared(with_book, b"01 P1, the encoding", &rows, &encoding);
     let mut printed = [0u8; 256];

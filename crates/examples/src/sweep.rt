@@ -1,5 +1,6 @@
 // Both judges on every candidate of a book, in the candidates' order.
 use leaves::wide;
+use logic::Profile;
 use notation::front;
 use second::World;
 
@@ -26,7 +27,7 @@ fn compare(
 ) -> Swept {
     let model = second::model_of(bounds[0], bounds[1], w, h);
     let size = wide(bounds[0]) + wide(bounds[1]);
-    let a = model::judge(book, front(&model, size));
+    let a = model::judge(Profile::Strong, book, front(&model, size));
     t.all = std::num::wrapping_add_u64(t.all, 1);
     if a.number == logic::NO && !fits || a.number == logic::YES && fits {
         t.same = std::num::wrapping_add_u64(t.same, 1);

@@ -22,6 +22,7 @@ use Rattle.grammar.specs.Outcome.{Outcome, taken, refused, outcome}
 use Rattle.grammar.specs.PlaceLaws.{trace}
 use Rattle.grammar.specs.Verdicts.{Settled, settled}
 use Rattle.grammar.specs.ImportLaws.{imports-single, imports-bounds, imports-refused, imports-written}
+use Rattle.grammar.specs.ProfileExample.{besideText, besideFormula}
 
 -- a text, n and p, and what the import gives back: its number, its place, and the bytes that it writes
 pub record Example : Type 0 where
@@ -66,6 +67,8 @@ rows =
     -- a wand; names as they first appear; a's nodes before b's
     reading (bytes "(wand (pto x y) (pto y x))") 2 3 3 (3 ∷ 1 ∷ 2 ∷ 3 ∷ 2 ∷ 1 ∷ 8 ∷ 1 ∷ 0 ∷ 10 ∷ 0 ∷ 2 ∷ 8 ∷ 3 ∷ 0 ∷ []) ∷
     reading (bytes "(or (pto b a) (sep (pto a c) sep.emp))") 3 3 3 (3 ∷ 1 ∷ 2 ∷ 3 ∷ 2 ∷ 3 ∷ 1 ∷ 0 ∷ 0 ∷ 9 ∷ 1 ∷ 2 ∷ 6 ∷ 0 ∷ 3 ∷ []) ∷
+    -- a text that tells the profiles apart
+    reading besideText 1 3 3 besideFormula ∷
     -- the 65th node, finished before a bad byte, and not finished
     refusing (times 7 (bytes "(and (or (= a a) (= a a)) ") ++ bytes "(and sep.emp sep.empx") 4 4 27 201 ∷
     refusing (times 7 (bytes "(and (or (= a a) (= a a)) ") ++ bytes "(and sep.emp sep.em") 4 4 26 201 ∷

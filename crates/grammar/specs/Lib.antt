@@ -28,4 +28,5 @@ pub mod Says
 pub mod SaysLaws
 pub mod BookOfLaws
 pub mod ImportLaws
+pub mod ProfileExample
 pub mod Examples

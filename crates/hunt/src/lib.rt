@@ -3,6 +3,7 @@
 use candidates::Candidate;
 use judge::node_holds;
 use logic::Answer;
+use logic::Profile;
 use logic::Table;
 use paths::is_short;
 ghost use mathlib.Core.Path.{_≡_};
@@ -12,29 +13,30 @@ ghost use lib.Dec.{leb};
 ghost use Rattle.logic.specs.Table.{Sound, tree};
 ghost use Rattle.logic.specs.Reflect.{Is};
 ghost use Rattle.logic.specs.Search.{CandidateFits, searched};
-ghost use Rattle.cells.specs.Cells.{most, cells, Unnamed};
+ghost use Rattle.cells.specs.Cells.{most, cells, Barred};
 ghost use Rattle.judge.specs.Setting.{room};
 ghost use Rattle.candidates.specs.Counter.{WithinBounds, number};
 ghost use Rattle.hunt.specs.Hunt.{Hunted};
 
-// The locations that are not named: they depend on the stack alone, which changes only where the heap is empty again.
-fn unnamed_for(c: Candidate, u: u64) -> u64
-    requires { ⌜ WithinBounds c × (¬ (c .heap ≡ 0) → Unnamed (c .vars) (c .locs) (cells (c .stack)) u) ⌝ }
-    ensures { λ r. ⌜ Unnamed (c .vars) (c .locs) (cells (c .stack)) r ⌝ }
+// The locations at which two heaps may not meet: they depend on the stack alone, which changes only where the heap is empty
+// again.
+fn barred_for(profile: Profile, c: Candidate, u: u64) -> u64
+    requires { ⌜ WithinBounds c × (¬ (c .heap ≡ 0) → Barred profile (c .vars) (c .locs) (cells (c .stack)) u) ⌝ }
+    ensures { λ r. ⌜ Barred profile (c .vars) (c .locs) (cells (c .stack)) r ⌝ }
 {
     if c.heap == 0 {
-        return cells::unnamed(c.vars, c.locs, c.stack);
+        return cells::barred(profile, c.vars, c.locs, c.stack);
     }
     u
 }
 
-// Whether the candidate fits node k of the table f; u is the set of the locations that are not named. The two tests of
-// `judge::fits` stand here themselves: most candidates fail the first, and it is then part of the loop.
-fn fits(f: &Table, k: usize, p: u64, c: Candidate, u: u64) -> bool
-    requires { ⌜ (k < room) × Sound (c .vars) (now f) (suc k) × WithinBounds c × Unnamed (c .vars) (c .locs) (cells (c .stack)) u ⌝ }
-    ensures { λ r. ⌜ Is r (CandidateFits (c .vars) (c .locs) p (tree (now (f .entry)) k) (number c)) ⌝ }
+// Whether the candidate fits node k of the table f; u is the set of the locations at which two heaps may not meet. The two tests
+// of `judge::fits` stand here themselves: most candidates fail the first, and it is then part of the loop.
+fn fits(profile: Profile, f: &Table, k: usize, p: u64, c: Candidate, u: u64) -> bool
+    requires { ⌜ (k < room) × Sound (c .vars) (now f) (suc k) × WithinBounds c × Barred profile (c .vars) (c .locs) (cells (c .stack)) u ⌝ }
+    ensures { λ r. ⌜ Is r (CandidateFits profile (c .vars) (c .locs) p (tree (now (f .entry)) k) (number c)) ⌝ }
 {
-    let b = [c.vars, c.locs, p, c.stack, u];
+    let b = [c.vars, c.locs, p, c.stack, u, judge::number(profile)];
     if node_holds(f, k, &b, c.heap) {
         is_short(c.locs, p, c.heap)
     } else {
@@ -75,21 +77,21 @@ fn enough(t: u64, budget: u64) -> bool
 }
 
 // The hunt for the lowest candidate that fits node k of the table f.
-pub fn hunt(f: &Table, k: usize, v: u64, n: u64, p: u64, budget: u64) -> Ended
+pub fn hunt(profile: Profile, f: &Table, k: usize, v: u64, n: u64, p: u64, budget: u64) -> Ended
     requires { ⌜ (k < room) × Sound v (now f) (suc k) × (v ≤ most) × (n ≤ most) ⌝ }
-    ensures { λ r. ⌜ Hunted v n (CandidateFits v n p (tree (now (f .entry)) k)) budget (r .answer) (r .at) ⌝ }
+    ensures { λ r. ⌜ Hunted v n (CandidateFits profile v n p (tree (now (f .entry)) k)) budget (r .answer) (r .at) ⌝ }
 {
     let t = candidates::total(v, n);
     let end = least(t, budget);
     let mut c = Candidate::first(v, n);
-    let mut u = unnamed_for(c, 0);
+    let mut u = barred_for(profile, c, 0);
     let mut i: u64 = 0;
     while i < end {
-        if fits(f, k, p, c, u) {
+        if fits(profile, f, k, p, c, u) {
             return stop(logic::YES, i + 1, c);
         }
         c = c.next();
-        u = unnamed_for(c, u);
+        u = barred_for(profile, c, u);
         i += 1;
     }
     if enough(t, budget) {

@@ -2,12 +2,13 @@
 -- longer paths lose a model of it. Assumes nothing.
 use mathlib.Core.Path.{sym, _∙_, subst}
 use mathlib.Core.List.{List}
-use mathlib.Core.Logic.{_⊎_, inl, inr, ⊎-elim}
+use mathlib.Core.Logic.{⊎-elim, _↔_}
 use Prim.Native.Nat.{ℕ, zero, suc, _+_, _≤_}
 use native.Mathlib.Omega.{arith}
 use lib.ListN.{length}
+use Rattle.logic.specs.declared.Profile.{Profile}
 use Rattle.logic.specs.declared.Answer.{Answer}
-use Rattle.logic.specs.Checks.{Checks, done, check, upto, Passes, Answers}
+use Rattle.logic.specs.Checks.{upto, Passes, Answers}
 use Rattle.logic.specs.CheckLaws.{answers-split, passes-none, passes-more, passes-then}
 use Rattle.logic.specs.Heap.{Map, Stack, Heap}
 use Rattle.logic.specs.Formula.{Form}
@@ -20,9 +21,10 @@ use Rattle.logic.specs.ModelLaws.{model-stack, model-heap}
 use Rattle.logic.specs.Candidates.{total, stackOf}
 use Rattle.logic.specs.CandidateLaws.{stackOf-stack}
 use Rattle.logic.specs.Strays.{NamedByAtom, nameChecks}
-use Rattle.logic.specs.Search.{CandidateFits, Outcome, found, none, spent, roomChecks, searchRest, Searches}
+use Rattle.logic.specs.Search.{CandidateFits, Outcome, roomChecks, searchRest, Searches}
 use Rattle.logic.specs.SearchLaws.{searches-outcome}
 use Rattle.laws.specs.Negations.{NoSeptraction, NoneUnderNegation}
+use Rattle.laws.specs.SameAnswers.{verdict-same, answers-more, outcome-same}
 use Rattle.laws.specs.NeverNone.{NeverNone}
 use Rattle.laws.specs.LongerPaths.{found-never-none-longer}
 use Rattle.laws.specs.MoreLocations.{found-never-none}
@@ -33,21 +35,8 @@ use Rattle.grammar.specs.Meaning.{namesOf, numberOf, formOf, meaning}
 use Rattle.grammar.specs.SaysLaws.{Iff, says-holds}
 use Rattle.imported.specs.Imported.{namesIn, TextFits, NoWand, Imported}
 
--- each of two facts follows from the other: then what is answered by the one is answered by the other
-verdict-iff : (P Q : Type 0) (a : Answer) → Iff P Q → Verdict P a → Verdict Q a
-verdict-iff P Q a i v = ⊎-elim (λ u. inl (i .to (u .0), u .1)) (λ u. inr (λ q. u .0 (i .from q), u .1)) v
-
-answers-more : (c : Checks) (R S : Answer → Type 0) (a : Answer) → (Passes c → R a → S a) → Answers c R a → Answers c S a
-unfolding Answers Passes
-answers-more done R S a f q = f tt q
-answers-more (check P m k c) R S a f q = ⊎-elim inl (λ u. inr (u .0, answers-more c R S a (λ p r. f (u .0, p) r) (u .1))) q
-
-outcome-iff : (P Q : ℕ → Type 0) (t b : ℕ) (a : Answer) → ((c : ℕ) → Iff (P c) (Q c)) → Outcome P t b a → Outcome Q t b a
-outcome-iff P Q t b a i (found k q e) = found k (record { candidate = q .0 .candidate; fits = i k .to (q .0 .fits); lower = λ j l y. q .0 .lower j l (i j .from y) }, q .1) e
-outcome-iff P Q t b a i (none q e) = none (λ j l y. q .0 j l (i j .from y), q .1) e
-outcome-iff P Q t b a i (spent q r e) =
-    spent (λ k u. q k (record { candidate = u .0 .candidate; fits = i k .from (u .0 .fits); lower = λ j l y. u .0 .lower j l (i j .to y) }, u .1))
-    (λ u. r (λ j l y. u .0 j l (i j .to y), u .1)) e
+both-ways : {P Q : Type 0} → Iff P Q → P ↔ Q
+both-ways i = (i .to, i .from)
 
 -- no variable up to v is stray
 all-named : (f : List ℕ) (v : ℕ) → ((x : ℕ) → 1 ≤ x → x ≤ v → NamedByAtom f x) → Passes (upto (nameChecks f) v)
@@ -64,25 +53,25 @@ module _ (s : List ℕ) (n p : ℕ) (F : Phrase) (b : List ℕ) (i : Imported s 
       (subst (λ (k : ℕ). P (namesIn F) k (pathOf b) (bookFormula b)) (i .locs)
       (subst (λ (k : ℕ). P k (locsOf b) (pathOf b) (bookFormula b)) (i .vars) q)))
 
-  meaning-fits : (S H : Map) → Stack (namesIn F) n S → Heap n H → Iff (Fits (namesIn F) n p (meaning F) S H) (TextFits n p F S H)
-  meaning-fits S H ks kh =
-      let q = says-holds (namesIn F) n (numberOf (namesOf F)) S (ks .low) F H kh in
+  meaning-fits : (π : Profile) (S H : Map) → Stack (namesIn F) n S → Heap n H → Iff (Fits π (namesIn F) n p (meaning F) S H) (TextFits π n p F S H)
+  meaning-fits π S H ks kh =
+      let q = says-holds π (namesIn F) n (numberOf (namesOf F)) S (ks .low) F H kh in
       record { to = λ y. (q .from (y .0), y .1); from = λ y. (q .to (y .0), y .1) }
 
   -- ---- the judge
 
   -- it refuses no more than the model, and speaks of the text's formula
-  pub judged-meaning : (m : List ℕ) (r : Answer) → Judges b m r → Answers (modelChecks (namesIn F) n m) (Verdict (Fits (namesIn F) n p (meaning F) (stackIn (namesIn F) m) (heapIn (namesIn F) n m))) r
+  pub judged-meaning : (π : Profile) (m : List ℕ) (r : Answer) → Judges π b m r → Answers (modelChecks (namesIn F) n m) (Verdict (Fits π (namesIn F) n p (meaning F) (stackIn (namesIn F) m) (heapIn (namesIn F) n m))) r
   unfolding Judges Accepted
-  judged-meaning m r q =
-      as-text (λ v l k G. Answers (modelChecks v l m) (Verdict (Fits v l k G (stackIn v m) (heapIn v l m))) r)
-      (⊎-elim (λ u. absurd (u .1 (i .accepted))) (λ u. u .1) (answers-split (bookChecks b) (modelChecks (varsOf b) (locsOf b) m) (Verdict (FitsBook b m)) r q))
+  judged-meaning π m r q =
+      as-text (λ v l k G. Answers (modelChecks v l m) (Verdict (Fits π v l k G (stackIn v m) (heapIn v l m))) r)
+      (⊎-elim (λ u. absurd (u .1 (i .accepted))) (λ u. u .1) (answers-split (bookChecks b) (modelChecks (varsOf b) (locsOf b) m) (Verdict (FitsBook π b m)) r q))
 
   -- in the text's own words
-  pub judged-text : (m : List ℕ) (r : Answer) → Judges b m r → Answers (modelChecks (namesIn F) n m) (Verdict (TextFits n p F (stackIn (namesIn F) m) (heapIn (namesIn F) n m))) r
-  judged-text m r q =
-      answers-more (modelChecks (namesIn F) n m) _ (Verdict (TextFits n p F (stackIn (namesIn F) m) (heapIn (namesIn F) n m))) r
-      (λ k u. verdict-iff _ _ r (meaning-fits (stackIn (namesIn F) m) (heapIn (namesIn F) n m) (model-stack (namesIn F) n m k) (model-heap (namesIn F) n m k)) u) (judged-meaning m r q)
+  pub judged-text : (π : Profile) (m : List ℕ) (r : Answer) → Judges π b m r → Answers (modelChecks (namesIn F) n m) (Verdict (TextFits π n p F (stackIn (namesIn F) m) (heapIn (namesIn F) n m))) r
+  judged-text π m r q =
+      answers-more (modelChecks (namesIn F) n m) _ (Verdict (TextFits π n p F (stackIn (namesIn F) m) (heapIn (namesIn F) n m))) r
+      (λ k u. verdict-same r (both-ways (meaning-fits π (stackIn (namesIn F) m) (heapIn (namesIn F) n m) (model-stack (namesIn F) n m k) (model-heap (namesIn F) n m k))) u) (judged-meaning π m r q)
 
   -- ---- the search
 
@@ -93,16 +82,16 @@ module _ (s : List ℕ) (n p : ℕ) (F : Phrase) (b : List ℕ) (i : Imported s 
       passes-then (upto (nameChecks (formulaOf b)) (varsOf b)) (roomChecks b o) (all-named (formulaOf b) (varsOf b) (i .named)) (omega (arith, i .vars, i .locs), tt)
 
   -- with room for a model it is not refused, and speaks of the text's formula
-  pub searched-meaning : (c : ℕ) (o : List ℕ) (r : Answer) (o′ : List ℕ) → namesIn F + n ≤ length o → Searches b c o r o′ → Outcome (CandidateFits (namesIn F) n p (meaning F)) (total (namesIn F) n) c r
-  searched-meaning c o r o′ l q =
-      as-text (λ v l k G. Outcome (CandidateFits v l k G) (total v l) c r) (searches-outcome b c o r o′ (i .accepted) (rest-passes o l) q)
+  pub searched-meaning : (π : Profile) (c : ℕ) (o : List ℕ) (r : Answer) (o′ : List ℕ) → namesIn F + n ≤ length o → Searches π b c o r o′ → Outcome (CandidateFits π (namesIn F) n p (meaning F)) (total (namesIn F) n) c r
+  searched-meaning π c o r o′ l q =
+      as-text (λ v l k G. Outcome (CandidateFits π v l k G) (total v l) c r) (searches-outcome π b c o r o′ (i .accepted) (rest-passes o l) q)
 
   -- in the text's own words
-  pub searched-text : (c : ℕ) (o : List ℕ) (r : Answer) (o′ : List ℕ) → namesIn F + n ≤ length o → Searches b c o r o′
-      → Outcome (λ k. TextFits n p F (stackOf (namesIn F) n k) (heapOf n k)) (total (namesIn F) n) c r
-  searched-text c o r o′ l q =
-      outcome-iff (CandidateFits (namesIn F) n p (meaning F)) (λ k. TextFits n p F (stackOf (namesIn F) n k) (heapOf n k)) (total (namesIn F) n) c r
-      (λ k. meaning-fits (stackOf (namesIn F) n k) (heapOf n k) (stackOf-stack (namesIn F) n k) (heapOf-heap n k)) (searched-meaning c o r o′ l q)
+  pub searched-text : (π : Profile) (c : ℕ) (o : List ℕ) (r : Answer) (o′ : List ℕ) → namesIn F + n ≤ length o → Searches π b c o r o′
+      → Outcome (λ k. TextFits π n p F (stackOf (namesIn F) n k) (heapOf n k)) (total (namesIn F) n) c r
+  searched-text π c o r o′ l q =
+      outcome-same (CandidateFits π (namesIn F) n p (meaning F)) (λ k. TextFits π n p F (stackOf (namesIn F) n k) (heapOf n k)) (total (namesIn F) n) c r
+      (λ k. both-ways (meaning-fits π (stackOf (namesIn F) n k) (heapOf n k) (stackOf-stack (namesIn F) n k) (heapOf-heap n k))) (searched-meaning π c o r o′ l q)
 
 -- ---- more locations and longer paths
 
@@ -134,14 +123,14 @@ none-under (sep a b) q = (none-under a (q .0), none-under b (q .1))
 none-under (sept a b) q = absurd q
 
 -- a text without `wand` that is found at n and p is never none at a larger n, a larger p, or both
-pub text-never-none : (s : List ℕ) (n n′ p p′ : ℕ) (F : Phrase) (b b′ : List ℕ) → n ≤ n′ → p ≤ p′ → Imported s n p F b → Imported s n′ p′ F b′ → NoWand F → NeverNone b b′
-text-never-none s n n′ p p′ F b b′ l m i j w =
-    found-never-none b b′
+pub text-never-none : (π : Profile) (s : List ℕ) (n n′ p p′ : ℕ) (F : Phrase) (b b′ : List ℕ) → n ≤ n′ → p ≤ p′ → Imported s n p F b → Imported s n′ p′ F b′ → NoWand F → NeverNone π b b′
+text-never-none π s n n′ p p′ F b b′ l m i j w =
+    found-never-none π b b′
     (record { vars = i .vars ∙ sym (j .vars); path = omega (arith, m, i .path, j .path); formula = i .table ∙ sym (j .table); locs = omega (arith, l, i .locs, j .locs) })
     (subst NoneUnderNegation (sym (i .formula)) (none-under (meaning F) (no-wand (numberOf (namesOf F)) F w)))
 
 -- and every text that is found at p is never none at a larger p
-pub text-never-none-longer : (s : List ℕ) (n p p′ : ℕ) (F : Phrase) (b b′ : List ℕ) → p ≤ p′ → Imported s n p F b → Imported s n p′ F b′ → NeverNone b b′
-text-never-none-longer s n p p′ F b b′ m i j =
-    found-never-none-longer b b′
+pub text-never-none-longer : (π : Profile) (s : List ℕ) (n p p′ : ℕ) (F : Phrase) (b b′ : List ℕ) → p ≤ p′ → Imported s n p F b → Imported s n p′ F b′ → NeverNone π b b′
+text-never-none-longer π s n p p′ F b b′ m i j =
+    found-never-none-longer π b b′
     (record { vars = i .vars ∙ sym (j .vars); locs = i .locs ∙ sym (j .locs); formula = i .table ∙ sym (j .table); path = omega (arith, m, i .path, j .path) })

@@ -3,6 +3,7 @@ use mathlib.Core.Path.{_≡_}
 use mathlib.Core.List.{List}
 use Prim.Native.Nat.{ℕ, _≤_}
 use lib.ListN.{length}
+use Rattle.logic.specs.declared.Profile.{Profile}
 use Rattle.logic.specs.Heap.{Map}
 use Rattle.logic.specs.Paths.{NoLongPath}
 use Rattle.logic.specs.Book.{varsOf, locsOf, pathOf, formulaOf, bookFormula, Accepted}
@@ -19,8 +20,8 @@ abbrev pub namesIn : Phrase → ℕ
 namesIn F = length (namesOf F)
 
 -- a stack and a heap fit the text F: it says so of them, its names numbered as they first appear, and no path is over p links
-abbrev pub TextFits : ℕ → ℕ → Phrase → Map → Map → Type 0
-TextFits n p F s h = Says (namesIn F) n (numberOf (namesOf F)) s F h × NoLongPath p h
+abbrev pub TextFits : Profile → ℕ → ℕ → Phrase → Map → Map → Type 0
+TextFits π n p F s h = Says π (namesIn F) n (numberOf (namesOf F)) s F h × NoLongPath p h
 
 -- `wand` does not occur
 unfoldable pub NoWand : Phrase → Type 0

@@ -11,7 +11,7 @@ use Rattle.logic.specs.Table.{opOf, operandOf, atomOf, tree}
 use Rattle.logic.specs.TruthHolds.{truth-holds}
 use Rattle.logic.specs.Reflect.{is-same, Is, false-true, is-iff}
 use Rattle.cells.specs.Cells.{most}
-use Rattle.judge.specs.Setting.{varsOf, locsOf, stackOf, Ready, truthAt}
+use Rattle.judge.specs.Setting.{varsOf, locsOf, profileOf, stackOf, Ready, truthAt}
 use Rattle.logic.specs.NodeLaws.{atom-operands, tree-atom}
 
 module _ (f b : List ℕ) (k : ℕ) (rd : Ready f b k) (l : opOf f k ≤ 4) where
@@ -27,11 +27,11 @@ module _ (f b : List ℕ) (k : ℕ) (rd : Ready f b k) (l : opOf f k ≤ 4) wher
         (omega (arith, rd .stack .low (operandOf f k 0), rd .fewLocs), omega (arith, rd .stack .low (operandOf f k 1), rd .fewLocs))
 
     module _ (h : Map) (kh : Heap (locsOf b) h) (r : Bool) where
-      by-holds : Is r (Holds (varsOf b) (locsOf b) (atomOf (opOf f k) (operandOf f k 0) (operandOf f k 1)) (stackOf b) h) → r ≡ truthAt f b k h
+      by-holds : Is r (Holds (profileOf b) (varsOf b) (locsOf b) (atomOf (opOf f k) (operandOf f k 0) (operandOf f k 1)) (stackOf b) h) → r ≡ truthAt f b k h
       by-holds q =
           is-same r (truthAt f b k h) q
-          (subst (λ (F : Form). Is (truthAt f b k h) (Holds (varsOf b) (locsOf b) F (stackOf b) h)) (tree-atom (varsOf b) f (suc k) (rd .sound) k l)
-          (truth-holds (varsOf b) (locsOf b) (stackOf b) (rd .stack .low) (tree f k) h kh))
+          (subst (λ (F : Form). Is (truthAt f b k h) (Holds (profileOf b) (varsOf b) (locsOf b) F (stackOf b) h)) (tree-atom (varsOf b) f (suc k) (rd .sound) k l)
+          (truth-holds (profileOf b) (varsOf b) (locsOf b) (stackOf b) (rd .stack .low) (tree f k) h kh))
 
       pub same-there : opOf f k ≡ 1 → x ≡ y → Is r (Empty h) → r ≡ truthAt f b k h
       unfolding Holds atomOf

@@ -9,7 +9,7 @@ use Rattle.logic.specs.Formula.{Form}
 use Rattle.logic.specs.Tests.{andb, orb, any, sepAt, septAt}
 use Rattle.logic.specs.Truth.{truth}
 use Rattle.logic.specs.Table.{opOf, operandOf, joinOf, joinFrom5, tree}
-use Rattle.judge.specs.Setting.{varsOf, locsOf, stackOf, Ready, Joined, truthOf, truthAt, firstAt, secondAt}
+use Rattle.judge.specs.Setting.{varsOf, locsOf, profileOf, stackOf, Ready, Joined, truthOf, truthAt, firstAt, secondAt}
 use Rattle.logic.specs.NodeLaws.{child-operands, tree-join}
 
 -- a node's operator is 1 to 10
@@ -35,7 +35,7 @@ module _ (f b : List ℕ) (k : ℕ) (jn : Joined f b k) where
         fewVars = rd .fewVars;
         fewLocs = rd .fewLocs;
         stack = rd .stack;
-        unnamed = rd .unnamed;
+        barred = rd .barred;
       }
 
   -- by operator
@@ -59,12 +59,12 @@ module _ (f b : List ℕ) (k : ℕ) (jn : Joined f b k) where
     unfolding truth joinOf joinFrom5
     truth-8 e = joined ∙ rw e
 
-    pub truth-9 : opOf f k ≡ 9 → truthAt f b k h ≡ any (2 ^ locsOf b) (sepAt (varsOf b) (locsOf b) (stackOf b) h (firstAt f b k) (secondAt f b k))
+    pub truth-9 : opOf f k ≡ 9 → truthAt f b k h ≡ any (2 ^ locsOf b) (sepAt (profileOf b) (varsOf b) (locsOf b) (stackOf b) h (firstAt f b k) (secondAt f b k))
     unfolding truth joinOf joinFrom5
     truth-9 e = joined ∙ rw e
 
     -- the operator is none of the others
-    pub truth-10 : ¬ (opOf f k ≡ 5) → ¬ (opOf f k ≡ 6) → ¬ (opOf f k ≡ 7) → ¬ (opOf f k ≡ 8) → ¬ (opOf f k ≡ 9) → truthAt f b k h ≡ any ((locsOf b + 2) ^ locsOf b) (septAt (varsOf b) (locsOf b) (stackOf b) h (firstAt f b k) (secondAt f b k))
+    pub truth-10 : ¬ (opOf f k ≡ 5) → ¬ (opOf f k ≡ 6) → ¬ (opOf f k ≡ 7) → ¬ (opOf f k ≡ 8) → ¬ (opOf f k ≡ 9) → truthAt f b k h ≡ any ((locsOf b + 2) ^ locsOf b) (septAt (profileOf b) (varsOf b) (locsOf b) (stackOf b) h (firstAt f b k) (secondAt f b k))
     unfolding truth joinOf joinFrom5
     truth-10 n5 n6 n7 n8 n9 = let e : opOf f k ≡ 10 = omega (arith, jn .ready .sound k (omega arith) .operator, jn .operator) in joined ∙ rw e
 

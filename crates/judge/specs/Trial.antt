@@ -10,11 +10,12 @@ use native.Mathlib.Omega.{arith}
 use lib.Dec.{ltb}
 use lib.Bits.{bitAnd, bitXor, and-le-r, and-zero-l}
 use borrow.Author.Tests.{lt-ltb, ltb-true}
+use Rattle.logic.specs.declared.Profile.{Profile}
 use Rattle.logic.specs.Heap.{Map, Heap}
 use Rattle.logic.specs.Tests.{andb, orb, any, inPart, allocated, within, apart, sepAt}
 use Rattle.logic.specs.Reflect.{is-same, Is, false-true, is-self, is-all, is-any}
 use Rattle.logic.specs.Agree.{is-apart, first-heap, second-heap}
-use Rattle.cells.specs.Cells.{most, full, cells, Sub, Spread, Taken, Unnamed, Tabled, Clear}
+use Rattle.cells.specs.Cells.{most, full, cells, Sub, Spread, Taken, Barred, Tabled, Clear}
 use Rattle.cells.specs.Sets.{in-and, in-past, same-set, set-small}
 use Rattle.cells.specs.Subsets.{next-least, next-above, and-sub}
 use Rattle.cells.specs.Heaps.{part-is, rest-is, part-rest}
@@ -130,34 +131,34 @@ module _ (n w a : ℕ) (few : n ≤ most) (kw : Heap n (cells w)) (t : Taken w a
       trying-found fm = lowest (lt-of-le-of-lt (sub-le m a (q .sub)) taken-small) fm (q .failed)
 
 -- ---- what is tested of part m, whose mask is e; t is the table, and r the test of strong disjointness
-module _ (v n u : ℕ) (s : Map) (un : Unnamed v n s u) (w t m e : ℕ) (kw : Heap n (cells w)) (k : Tabled u w t) (sp : Spread m e) where
+module _ {π : Profile} (v n u : ℕ) (s : Map) (un : Barred π v n s u) (w t m e : ℕ) (kw : Heap n (cells w)) (k : Tabled u w t) (sp : Spread m e) where
   pub part-is-heap : Heap n (cells (bitAnd w e))
   part-is-heap = first-heap n (cells (bitAnd w e)) (cells (bitXor w (bitAnd w e))) (cells w) (part-rest m e sp w) kw
 
   pub rest-is-heap : Heap n (cells (bitXor w (bitAnd w e)))
   rest-is-heap = second-heap n (cells (bitAnd w e)) (cells (bitXor w (bitAnd w e))) (cells w) (part-rest m e sp w) kw
 
-  sep-is : (A B : Map → Bool) (r : Bool) → within n m (cells w) ≡ true → Is r (Clear (bitAnd t e) (bitXor t (bitAnd t e))) → sepAt v n s (cells w) A B m ≡ andb r (andb (A (cells (bitAnd w e))) (B (cells (bitXor w (bitAnd w e)))))
+  sep-is : (A B : Map → Bool) (r : Bool) → within n m (cells w) ≡ true → Is r (Clear (bitAnd t e) (bitXor t (bitAnd t e))) → sepAt π v n s (cells w) A B m ≡ andb r (andb (A (cells (bitAnd w e))) (B (cells (bitXor w (bitAnd w e)))))
   unfolding sepAt
   sep-is A B r wi i = rw (wi, ← (part-is m e sp w), ← (rest-is m e sp w), ← apart-is)
     where
       one-side : (ℓ : ℕ) → (cells (bitAnd w e) ℓ ≡ 0) ⊎ (cells (bitXor w (bitAnd w e)) ℓ ≡ 0)
       one-side ℓ = ⊎-elim (λ q. inr (q .1)) (λ q. inl (q .0)) (part-rest m e sp w ℓ)
 
-      apart-is : r ≡ apart v n s (cells (bitAnd w e)) (cells (bitXor w (bitAnd w e)))
+      apart-is : r ≡ apart π v n s (cells (bitAnd w e)) (cells (bitXor w (bitAnd w e)))
       apart-is =
-          is-same r (apart v n s (cells (bitAnd w e)) (cells (bitXor w (bitAnd w e))))
+          is-same r (apart π v n s (cells (bitAnd w e)) (cells (bitXor w (bitAnd w e))))
           (is-disjoint v n u s un r (bitAnd w e) (bitXor w (bitAnd w e)) (bitAnd t e) (bitXor t (bitAnd t e)) part-is-heap one-side (part-tabled u w t m e k sp) (rest-tabled u w t m e k sp) i)
-          (is-apart v n s (cells (bitAnd w e)) (cells (bitXor w (bitAnd w e))) part-is-heap rest-is-heap)
+          (is-apart π v n s (cells (bitAnd w e)) (cells (bitXor w (bitAnd w e))) part-is-heap rest-is-heap)
 
   module _ (A B : Map → Bool) (r : Bool) (wi : within n m (cells w) ≡ true) (i : Is r (Clear (bitAnd t e) (bitXor t (bitAnd t e)))) where
-    pub serves-not-apart : r ≡ false → false ≡ sepAt v n s (cells w) A B m
+    pub serves-not-apart : r ≡ false → false ≡ sepAt π v n s (cells w) A B m
     serves-not-apart p = sym (sep-is A B r wi i ∙ rw p)
 
-    pub serves-both : (o : Bool) → r ≡ true → o ≡ andb (A (cells (bitAnd w e))) (B (cells (bitXor w (bitAnd w e)))) → o ≡ sepAt v n s (cells w) A B m
+    pub serves-both : (o : Bool) → r ≡ true → o ≡ andb (A (cells (bitAnd w e))) (B (cells (bitXor w (bitAnd w e)))) → o ≡ sepAt π v n s (cells w) A B m
     serves-both o p q = q ∙ sym (sep-is A B r wi i ∙ rw p)
 
 -- a part that is not within the heap does not serve
-pub sep-out : (v n : ℕ) (s h : Map) (A B : Map → Bool) (m : ℕ) → within n m h ≡ false → sepAt v n s h A B m ≡ false
+pub sep-out : (π : Profile) (v n : ℕ) (s h : Map) (A B : Map → Bool) (m : ℕ) → within n m h ≡ false → sepAt π v n s h A B m ≡ false
 unfolding sepAt
-sep-out v n s h A B m e = rw e
+sep-out π v n s h A B m e = rw e

@@ -13,6 +13,7 @@ use cells::table;
 use cells::taken;
 use leaves::long;
 use leaves::wide;
+use logic::Profile;
 use logic::Table;
 use paths::is_short;
 ghost use mathlib.Core.Path.{_≡_};
@@ -24,13 +25,23 @@ ghost use Rattle.logic.specs.Tests.{andb, within};
 ghost use Rattle.logic.specs.Reflect.{Is};
 ghost use Rattle.logic.specs.Model.{Fits};
 ghost use Rattle.cells.specs.Cells.{full, cells, Tabled, Source, SourceBelow};
-ghost use Rattle.judge.specs.Setting.{varsOf, locsOf, pathOf, stackOf, unnamedOf, Ready, Joined, truthAt, firstAt, secondAt, servesAt, Chosen, Found, FoundAt, Filled};
+ghost use Rattle.judge.specs.Setting.{varsOf, locsOf, pathOf, profileFrom, profileOf, stackOf, barredOf, Ready, Joined, truthAt, firstAt, secondAt, servesAt, Chosen, Found, FoundAt, Filled};
 
 // The mark that no part serves: one more than the greatest part.
 pub const NONE: u64 = 256;
 
+// The profile's number in a setting. No step reads it: it says which truth the setting is for.
+pub fn number(profile: Profile) -> u64
+    ensures { λ r. ⌜ profileFrom r ≡ profile ⌝ }
+{
+    match profile {
+        Profile::Strong => 0,
+        Profile::Ordinary => 1,
+    }
+}
+
 // Operators 1 to 4, over variables.
-fn atom(f: &Table, k: usize, b: &[u64; 5], w: u64) -> bool
+fn atom(f: &Table, k: usize, b: &[u64; 6], w: u64) -> bool
     requires { ⌜ (opOf (now f) k ≤ 4) × Ready (now f) (now b) k × Heap (locsOf (now b)) (cells w) ⌝ }
     ensures { λ r. ⌜ r ≡ truthAt (now (f .entry)) (now (b .entry)) k (cells w) ⌝ }
 {
@@ -45,9 +56,9 @@ fn atom(f: &Table, k: usize, b: &[u64; 5], w: u64) -> bool
     }
 }
 
-// Whether node k of the table f holds on the heap w. b has v, n, p, the packed stack and the set of the locations that are
-// not named: see specs/Setting.antt.
-pub fn node_holds(f: &Table, k: usize, b: &[u64; 5], w: u64) -> bool
+// Whether node k of the table f holds on the heap w. b has v, n, p, the packed stack, the set of the locations at which two
+// heaps may not meet, and the profile's number: see specs/Setting.antt.
+pub fn node_holds(f: &Table, k: usize, b: &[u64; 6], w: u64) -> bool
     requires { ⌜ Ready (now f) (now b) k × Heap (locsOf (now b)) (cells w) ⌝ }
     ensures { λ r. ⌜ r ≡ truthAt (now (f .entry)) (now (b .entry)) k (cells w) ⌝ }
 {
@@ -61,7 +72,7 @@ pub fn node_holds(f: &Table, k: usize, b: &[u64; 5], w: u64) -> bool
 
 // The same for a node that is a child. With two callers `join` is compiled apart, so that an atom saves no registers: all
 // formulas are judged a tenth to a third faster. A negation is judged here and not there, for the same reason.
-fn child_holds(f: &Table, k: usize, b: &[u64; 5], w: u64) -> bool
+fn child_holds(f: &Table, k: usize, b: &[u64; 6], w: u64) -> bool
     requires { ⌜ Ready (now f) (now b) k × Heap (locsOf (now b)) (cells w) ⌝ }
     ensures { λ r. ⌜ r ≡ truthAt (now (f .entry)) (now (b .entry)) k (cells w) ⌝ }
 {
@@ -76,14 +87,14 @@ fn child_holds(f: &Table, k: usize, b: &[u64; 5], w: u64) -> bool
     }
 }
 
-fn a_holds(f: &Table, k: usize, b: &[u64; 5], w: u64) -> bool
+fn a_holds(f: &Table, k: usize, b: &[u64; 6], w: u64) -> bool
     requires { ⌜ Joined (now f) (now b) k × Heap (locsOf (now b)) (cells w) ⌝ }
     ensures { λ r. ⌜ r ≡ firstAt (now (f .entry)) (now (b .entry)) k (cells w) ⌝ }
 {
     child_holds(f, wide(f[3 * k + 1]), b, w)
 }
 
-fn b_holds(f: &Table, k: usize, b: &[u64; 5], w: u64) -> bool
+fn b_holds(f: &Table, k: usize, b: &[u64; 6], w: u64) -> bool
     requires { ⌜ Joined (now f) (now b) k × Heap (locsOf (now b)) (cells w) ⌝ }
     ensures { λ r. ⌜ r ≡ secondAt (now (f .entry)) (now (b .entry)) k (cells w) ⌝ }
 {
@@ -91,7 +102,7 @@ fn b_holds(f: &Table, k: usize, b: &[u64; 5], w: u64) -> bool
 }
 
 // Whether a holds on g and b on h: a before b, and b only where it can still decide.
-fn both(f: &Table, k: usize, b: &[u64; 5], g: u64, h: u64) -> bool
+fn both(f: &Table, k: usize, b: &[u64; 6], g: u64, h: u64) -> bool
     requires { ⌜ Joined (now f) (now b) k × Heap (locsOf (now b)) (cells g) × Heap (locsOf (now b)) (cells h) ⌝ }
     ensures { λ r. ⌜ r ≡ andb (firstAt (now (f .entry)) (now (b .entry)) k (cells g)) (secondAt (now (f .entry)) (now (b .entry)) k (cells h)) ⌝ }
 {
@@ -103,7 +114,7 @@ fn both(f: &Table, k: usize, b: &[u64; 5], g: u64, h: u64) -> bool
 }
 
 // Operators 5 to 10, over lower nodes.
-fn join(f: &Table, k: usize, b: &[u64; 5], w: u64) -> bool
+fn join(f: &Table, k: usize, b: &[u64; 6], w: u64) -> bool
     requires { ⌜ Joined (now f) (now b) k × Heap (locsOf (now b)) (cells w) ⌝ }
     ensures { λ r. ⌜ r ≡ truthAt (now (f .entry)) (now (b .entry)) k (cells w) ⌝ }
 {
@@ -131,7 +142,7 @@ fn join(f: &Table, k: usize, b: &[u64; 5], w: u64) -> bool
 }
 
 // The lowest part that serves, or the mark that none does. Parts are subsets of the allocated set, tried upward.
-fn split(f: &Table, k: usize, b: &[u64; 5], w: u64) -> u64
+fn split(f: &Table, k: usize, b: &[u64; 6], w: u64) -> u64
     requires { ⌜ Joined (now f) (now b) k × Heap (locsOf (now b)) (cells w) ⌝ }
     ensures { λ r. ⌜ Chosen (servesAt (now (f .entry)) (now (b .entry)) k w) (2 ^ locsOf (now (b .entry))) r ⌝ }
 {
@@ -151,8 +162,8 @@ fn split(f: &Table, k: usize, b: &[u64; 5], w: u64) -> u64
 }
 
 // Whether part m of w serves, where all its locations are allocated; t is w's table.
-fn serves(f: &Table, k: usize, b: &[u64; 5], w: u64, t: u64, m: u64) -> bool
-    requires { ⌜ Joined (now f) (now b) k × Heap (locsOf (now b)) (cells w) × Tabled (unnamedOf (now b)) w t × (m < full) × (within (locsOf (now b)) m (cells w) ≡ true) ⌝ }
+fn serves(f: &Table, k: usize, b: &[u64; 6], w: u64, t: u64, m: u64) -> bool
+    requires { ⌜ Joined (now f) (now b) k × Heap (locsOf (now b)) (cells w) × Tabled (barredOf (now b)) w t × (m < full) × (within (locsOf (now b)) m (cells w) ≡ true) ⌝ }
     ensures { λ r. ⌜ r ≡ servesAt (now (f .entry)) (now (b .entry)) k w m ⌝ }
 {
     let e = spread(m);
@@ -164,8 +175,9 @@ fn serves(f: &Table, k: usize, b: &[u64; 5], w: u64, t: u64, m: u64) -> bool
 }
 
 // Whether some added heap serves. Only locations where a cell may be added are filled, from the last down and each digit
-// upward: that is the candidates' order. No added cell may touch the barred locations, which are w's unnamed ones.
-fn added(f: &Table, k: usize, b: &[u64; 5], w: u64) -> bool
+// upward: that is the candidates' order. No added cell may touch the barred locations, which are those of w at which two
+// heaps may not meet.
+fn added(f: &Table, k: usize, b: &[u64; 6], w: u64) -> bool
     requires { ⌜ Joined (now f) (now b) k × Heap (locsOf (now b)) (cells w) ⌝ }
     ensures { λ r. ⌜ Found (now (f .entry)) (now (b .entry)) k w (locsOf (now (b .entry))) 0 r ⌝ }
 {
@@ -178,8 +190,8 @@ fn added(f: &Table, k: usize, b: &[u64; 5], w: u64) -> bool
 }
 
 // Whether some heap serves that is g above location l, where a cell may be.
-fn fill(f: &Table, k: usize, b: &[u64; 5], w: u64, barred: u64, l: u64, g: u64) -> bool
-    requires { ⌜ Joined (now f) (now b) k × Heap (locsOf (now b)) (cells w) × Filled (locsOf (now b)) (unnamedOf (now b)) w barred l g × (0 < l) × Source w barred l ⌝ }
+fn fill(f: &Table, k: usize, b: &[u64; 6], w: u64, barred: u64, l: u64, g: u64) -> bool
+    requires { ⌜ Joined (now f) (now b) k × Heap (locsOf (now b)) (cells w) × Filled (locsOf (now b)) (barredOf (now b)) w barred l g × (0 < l) × Source w barred l ⌝ }
     ensures { λ r. ⌜ Found (now (f .entry)) (now (b .entry)) k w l g r ⌝ }
 {
     let next = source_below(w, barred, l - 1);
@@ -198,7 +210,7 @@ fn fill(f: &Table, k: usize, b: &[u64; 5], w: u64, barred: u64, l: u64, g: u64) 
 fn digit(
     f: &Table,
     k: usize,
-    b: &[u64; 5],
+    b: &[u64; 6],
     w: u64,
     barred: u64,
     l: u64,
@@ -206,7 +218,7 @@ fn digit(
     g: u64,
     d: u64,
 ) -> bool
-    requires { ⌜ Joined (now f) (now b) k × Heap (locsOf (now b)) (cells w) × Filled (locsOf (now b)) (unnamedOf (now b)) w barred l g × (0 < l) × Source w barred l × (next < l) × SourceBelow w barred (l - 1) next × (d ≤ suc (locsOf (now b))) ⌝ }
+    requires { ⌜ Joined (now f) (now b) k × Heap (locsOf (now b)) (cells w) × Filled (locsOf (now b)) (barredOf (now b)) w barred l g × (0 < l) × Source w barred l × (next < l) × SourceBelow w barred (l - 1) next × (d ≤ suc (locsOf (now b))) ⌝ }
     ensures { λ r. ⌜ FoundAt (now (f .entry)) (now (b .entry)) k w l g d r ⌝ }
 {
     if !is_target(barred, d) {
@@ -220,9 +232,9 @@ fn digit(
 }
 
 // Whether the heap w fits node k of the table f, as a model's heap does: the node holds, and no path is too long.
-pub fn fits(f: &Table, k: usize, b: &[u64; 5], w: u64) -> bool
+pub fn fits(f: &Table, k: usize, b: &[u64; 6], w: u64) -> bool
     requires { ⌜ Ready (now f) (now b) k × Heap (locsOf (now b)) (cells w) ⌝ }
-    ensures { λ r. ⌜ Is r (Fits (varsOf (now (b .entry))) (locsOf (now (b .entry))) (pathOf (now (b .entry))) (tree (now (f .entry)) k) (stackOf (now (b .entry))) (cells w)) ⌝ }
+    ensures { λ r. ⌜ Is r (Fits (profileOf (now (b .entry))) (varsOf (now (b .entry))) (locsOf (now (b .entry))) (pathOf (now (b .entry))) (tree (now (f .entry)) k) (stackOf (now (b .entry))) (cells w)) ⌝ }
 {
     if node_holds(f, k, b, w) {
         is_short(b[1], b[2], w)

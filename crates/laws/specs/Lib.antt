@@ -7,3 +7,6 @@ pub mod NeverNone
 pub mod LongerPaths
 pub mod MoreLocations
 pub mod FoundFits
+pub mod SameAnswers
+pub mod Profiles
+pub mod ProfileAnswers

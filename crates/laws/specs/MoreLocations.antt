@@ -10,6 +10,7 @@ use lib.Dec.{ltb}
 use lib.ListN.{length, getD, replicate, List·getD-append, getD-replicate}
 use lib.Seq.{getD-append-add}
 use borrow.Author.Tests.{lt-ltb, le-ltb}
+use Rattle.logic.specs.declared.Profile.{Profile}
 use Rattle.logic.specs.Checks.{Passes}
 use Rattle.logic.specs.Heap.{Map, Stack}
 use Rattle.logic.specs.Formula.{Form}
@@ -31,9 +32,9 @@ use Rattle.laws.specs.LongerPaths.{fits-longer}
 pub stack-more : (v n n′ : ℕ) (s : Map) → n ≤ n′ → Stack v n s → Stack v n′ s
 stack-more v n n′ s l k = record { nil = k .nil; low = λ x. omega (arith, k .low x); past = k .past }
 
-module _ (v : ℕ) where
+module _ (π : Profile) (v : ℕ) where
   -- without septraction the truth is the same at all n and n′, both ways
-  pub same-truth : (F : Form) (n n′ : ℕ) (s h : Map) → NoSeptraction F → Holds v n F s h → Holds v n′ F s h
+  pub same-truth : (F : Form) (n n′ : ℕ) (s h : Map) → NoSeptraction F → Holds π v n F s h → Holds π v n′ F s h
   unfolding NoSeptraction Holds
   same-truth (same x y) n n′ s h c q = q
   same-truth (diff x y) n n′ s h c q = q
@@ -48,7 +49,7 @@ module _ (v : ℕ) where
   same-truth (sept a b) n n′ s h c q = absurd c
 
   -- what holds at n holds at every n′ from n on, with the same stack and the same heap: an added heap still serves
-  pub holds-more : (F : Form) (n n′ : ℕ) (s h : Map) → n ≤ n′ → NoneUnderNegation F → Holds v n F s h → Holds v n′ F s h
+  pub holds-more : (F : Form) (n n′ : ℕ) (s h : Map) → n ≤ n′ → NoneUnderNegation F → Holds π v n F s h → Holds π v n′ F s h
   unfolding NoneUnderNegation Holds
   holds-more (same x y) n n′ s h l c q = q
   holds-more (diff x y) n n′ s h l c q = q
@@ -64,17 +65,17 @@ module _ (v : ℕ) where
       (q .0, q .1, heap-more n n′ (q .0) l (q .2), q .3, q .4, holds-more a n n′ s (q .0) l (c .0) (q .5), holds-more b n n′ s (q .1) l (c .1) (q .6))
 
   -- and what fits at n and p fits at every n′ from n on and every p′ from p on
-  pub fits-more : (F : Form) (n n′ p p′ : ℕ) (s h : Map) → n ≤ n′ → p ≤ p′ → NoneUnderNegation F → Fits v n p F s h → Fits v n′ p′ F s h
-  fits-more F n n′ p p′ s h l m c q = fits-longer v n′ p p′ F s h m (holds-more F n n′ s h l c (q .0), q .1)
+  pub fits-more : (F : Form) (n n′ p p′ : ℕ) (s h : Map) → n ≤ n′ → p ≤ p′ → NoneUnderNegation F → Fits π v n p F s h → Fits π v n′ p′ F s h
+  fits-more F n n′ p p′ s h l m c q = fits-longer π v n′ p p′ F s h m (holds-more F n n′ s h l c (q .0), q .1)
 
 -- a candidate that fits at n is a candidate that fits at n′, of another number
-pub candidate-more : (v n n′ p p′ : ℕ) (F : Form) (c : ℕ) → n ≤ n′ → p ≤ p′ → NoneUnderNegation F → CandidateFits v n p F c → (i : ℕ) × (i < total v n′) × CandidateFits v n′ p′ F i
-candidate-more v n n′ p p′ F c l lp w q =
+pub candidate-more : (π : Profile) (v n n′ p p′ : ℕ) (F : Form) (c : ℕ) → n ≤ n′ → p ≤ p′ → NoneUnderNegation F → CandidateFits π v n p F c → (i : ℕ) × (i < total v n′) × CandidateFits π v n′ p′ F i
+candidate-more π v n n′ p p′ F c l lp w q =
     let s = stackOf v n c in
     let h = heapOf n c in
     let ks = stack-more v n n′ s l (stackOf-stack v n c) in
     let kh = heap-more n n′ h l (heapOf-heap n c) in
-    (numberOf v n′ s h, number-lt v n′ s h ks kh, rw (stack-of-number v n′ s h ks kh, heap-of-number v n′ s h ks kh) (fits-more v F n n′ p p′ s h l lp w q))
+    (numberOf v n′ s h, number-lt v n′ s h ks kh, rw (stack-of-number v n′ s h ks kh, heap-of-number v n′ s h ks kh) (fits-more π v F n n′ p p′ s h l lp w q))
 
 -- the widened model has the same stack and the same heap
 module _ (v n n′ : ℕ) (m : List ℕ) (long : length m ≡ v + n) (l : n ≤ n′) where
@@ -115,31 +116,31 @@ module _ (v n n′ : ℕ) (m : List ℕ) (long : length m ≡ v + n) (l : n ≤ 
 
 -- ---- the same of books: found never becomes none
 
-module _ (s t : List ℕ) (w : Wider s t) (c : NoneUnderNegation (bookFormula s)) where
+module _ (π : Profile) (s t : List ℕ) (w : Wider s t) (c : NoneUnderNegation (bookFormula s)) where
   -- t is judged as s is, with its own n and p
-  pub judged-as : (S H : Map) → Fits (varsOf s) (locsOf t) (pathOf t) (bookFormula s) S H → Fits (varsOf t) (locsOf t) (pathOf t) (bookFormula t) S H
+  pub judged-as : (S H : Map) → Fits π (varsOf s) (locsOf t) (pathOf t) (bookFormula s) S H → Fits π (varsOf t) (locsOf t) (pathOf t) (bookFormula t) S H
   judged-as S H q =
-      subst (λ (f : List ℕ). Fits (varsOf t) (locsOf t) (pathOf t) (tree f (root f)) S H) (w .formula)
-      (subst (λ (v : ℕ). Fits v (locsOf t) (pathOf t) (bookFormula s) S H) (w .vars) q)
+      subst (λ (f : List ℕ). Fits π (varsOf t) (locsOf t) (pathOf t) (tree f (root f)) S H) (w .formula)
+      (subst (λ (v : ℕ). Fits π v (locsOf t) (pathOf t) (bookFormula s) S H) (w .vars) q)
 
-  pub found-more : (k : ℕ) → FitsAt s k → (i : ℕ) × (i < totalOf t) × FitsAt t i
+  pub found-more : (k : ℕ) → FitsAt π s k → (i : ℕ) × (i < totalOf t) × FitsAt π t i
   found-more k q =
-      let r = candidate-more (varsOf s) (locsOf s) (locsOf t) (pathOf s) (pathOf t) (bookFormula s) k (w .locs) (w .path) c q in (
+      let r = candidate-more π (varsOf s) (locsOf s) (locsOf t) (pathOf s) (pathOf t) (bookFormula s) k (w .locs) (w .path) c q in (
         r .0,
         subst (λ (v : ℕ). r .0 < total v (locsOf t)) (w .vars) (r .1),
         judged-as (stackOf (varsOf t) (locsOf t) (r .0)) (heapOf (locsOf t) (r .0))
-            (subst (λ (v : ℕ). Fits (varsOf s) (locsOf t) (pathOf t) (bookFormula s) (stackOf v (locsOf t) (r .0)) (heapOf (locsOf t) (r .0))) (w .vars) (r .2)),
+            (subst (λ (v : ℕ). Fits π (varsOf s) (locsOf t) (pathOf t) (bookFormula s) (stackOf v (locsOf t) (r .0)) (heapOf (locsOf t) (r .0))) (w .vars) (r .2)),
       )
 
-  pub found-never-none : NeverNone s t
-  found-never-none = never-none s t (λ k _ q. found-more k q)
+  pub found-never-none : NeverNone π s t
+  found-never-none = never-none π s t (λ k _ q. found-more k q)
 
   -- and of a model's bytes
-  pub model-more : (m : List ℕ) → Passes (modelChecks (varsOf s) (locsOf s) m) → FitsBook s m → FitsBook t (widened (locsOf s) (locsOf t) m)
+  pub model-more : (m : List ℕ) → Passes (modelChecks (varsOf s) (locsOf s) m) → FitsBook π s m → FitsBook π t (widened (locsOf s) (locsOf t) m)
   unfolding Passes
   model-more m ok q =
       judged-as (stackIn (varsOf t) (widened (locsOf s) (locsOf t) m)) (heapIn (varsOf t) (locsOf t) (widened (locsOf s) (locsOf t) m))
-      (subst (λ (v : ℕ). Fits (varsOf s) (locsOf t) (pathOf t) (bookFormula s) (stackIn v (widened (locsOf s) (locsOf t) m)) (heapIn v (locsOf t) (widened (locsOf s) (locsOf t) m))) (w .vars)
-      (subst₂ (Fits (varsOf s) (locsOf t) (pathOf t) (bookFormula s))
+      (subst (λ (v : ℕ). Fits π (varsOf s) (locsOf t) (pathOf t) (bookFormula s) (stackIn v (widened (locsOf s) (locsOf t) m)) (heapIn v (locsOf t) (widened (locsOf s) (locsOf t) m))) (w .vars)
+      (subst₂ (Fits π (varsOf s) (locsOf t) (pathOf t) (bookFormula s))
       (sym (widened-stack (varsOf s) (locsOf s) (locsOf t) m (ok .0) (w .locs))) (sym (widened-heap (varsOf s) (locsOf s) (locsOf t) m (ok .0) (w .locs)))
-      (fits-more (varsOf s) (bookFormula s) (locsOf s) (locsOf t) (pathOf s) (pathOf t) (stackIn (varsOf s) m) (heapIn (varsOf s) (locsOf s) m) (w .locs) (w .path) c q)))
+      (fits-more π (varsOf s) (bookFormula s) (locsOf s) (locsOf t) (pathOf s) (pathOf t) (stackIn (varsOf s) m) (heapIn (varsOf s) (locsOf s) m) (w .locs) (w .path) c q)))

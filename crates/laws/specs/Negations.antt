@@ -27,3 +27,16 @@ NoneUnderNegation (but a b) = NoneUnderNegation a × NoSeptraction b
 NoneUnderNegation (neg a) = NoSeptraction a
 NoneUnderNegation (sep a b) = NoneUnderNegation a × NoneUnderNegation b
 NoneUnderNegation (sept a b) = NoneUnderNegation a × NoneUnderNegation b
+
+-- operator 8 stands nowhere in a formula
+unfoldable pub NoNegation : Form → Type 0
+NoNegation (same x y) = Unit {0}
+NoNegation (diff x y) = Unit {0}
+NoNegation (pts x y) = Unit {0}
+NoNegation (ls x y) = Unit {0}
+NoNegation (conj a b) = NoNegation a × NoNegation b
+NoNegation (disj a b) = NoNegation a × NoNegation b
+NoNegation (but a b) = NoNegation a × NoNegation b
+NoNegation (neg a) = ⊥
+NoNegation (sep a b) = NoNegation a × NoNegation b
+NoNegation (sept a b) = NoNegation a × NoNegation b

@@ -7,6 +7,7 @@ use native.Mathlib.Nat.{add-zero, add-suc}
 use native.Mathlib.Omega.{arith}
 use lib.ListN.{replicate, replicate-append-replicate}
 use borrow.Author.Tests.{eq-eqb}
+use Rattle.logic.specs.declared.Profile.{Profile}
 use Rattle.logic.specs.declared.Answer.{Answer}
 use Rattle.logic.specs.Numbers.{answer, yes-number}
 use Rattle.logic.specs.Checks.{Passes}
@@ -52,11 +53,11 @@ module _ (v n n′ : ℕ) (m : List ℕ) (l : n ≤ n′) (ok : Passes (modelChe
       subst (λ (x : List ℕ). Passes (modelChecks v n′ x)) widened-bytes
       (model-in-range v n′ (stackIn v m) (heapIn v n m) (stack-more v n n′ (stackIn v m) l (model-stack v n m ok)) (heap-more n n′ (heapIn v n m) l (model-heap v n m ok)))
 
-pub still-fits : (s t : List ℕ) → Wider s t → NoneUnderNegation (bookFormula s) → Accepted t → (m : List ℕ) (r : Answer) → Judges s m r → r .number ≡ yes-number → Judges t (widened (locsOf s) (locsOf t) m) (answer yes-number 0)
+pub still-fits : (π : Profile) (s t : List ℕ) → Wider s t → NoneUnderNegation (bookFormula s) → Accepted t → (m : List ℕ) (r : Answer) → Judges π s m r → r .number ≡ yes-number → Judges π t (widened (locsOf s) (locsOf t) m) (answer yes-number 0)
 unfolding Judges Accepted
-still-fits s t w c ok m r q e =
-    let k = book-zero s (modelChecks (varsOf s) (locsOf s) m) (Verdict (FitsBook s m)) r (model-refuses (varsOf s) (locsOf s) m) q e in
+still-fits π s t w c ok m r q e =
+    let k = book-zero s (modelChecks (varsOf s) (locsOf s) m) (Verdict (FitsBook π s m)) r (model-refuses (varsOf s) (locsOf s) m) q e in
     let m′ = widened (locsOf s) (locsOf t) m in
     let range = subst (λ (v : ℕ). Passes (modelChecks v (locsOf t) m′)) (w .vars) (widened-in-range (varsOf s) (locsOf s) (locsOf t) m (w .locs) (k .1 .0)) in
-    answers-passed (judgeChecks t m′) (Verdict (FitsBook t m′)) (answer yes-number 0) (passes-then (bookChecks t) (modelChecks (varsOf t) (locsOf t) m′) ok range)
-    (inl (model-more s t w c m (k .1 .0) (verdict-zero (FitsBook s m) r (k .1 .1) e), refl))
+    answers-passed (judgeChecks t m′) (Verdict (FitsBook π t m′)) (answer yes-number 0) (passes-then (bookChecks t) (modelChecks (varsOf t) (locsOf t) m′) ok range)
+    (inl (model-more π s t w c m (k .1 .0) (verdict-zero (FitsBook π s m) r (k .1 .1) e), refl))

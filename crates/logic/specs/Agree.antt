@@ -9,9 +9,11 @@ use native.Mathlib.Decide.{decLt, decLe, ℕ-discrete}
 use native.Mathlib.Omega.{arith}
 use lib.Dec.{eqb, ltb}
 use borrow.Author.Tests.{eq-eqb, ne-eqb, lt-ltb, le-ltb}
-use Rattle.logic.specs.Heap.{Map, Heap, Allocated, Locs, Named, StronglyDisjoint, Parts, Empty}
+use Rattle.logic.specs.declared.Profile.{Profile}
+use Rattle.logic.specs.declared.Profile.the-variants.{Strong, Ordinary}
+use Rattle.logic.specs.Heap.{Map, Heap, Allocated, Locs, Named, MayMeet, Disjoint, Parts, Empty}
 use Rattle.logic.specs.Holds.{Points}
-use Rattle.logic.specs.Tests.{andb, orb, pick, any, all, digit, inPart, heapOf, allocated, part, rest, union, named, empty, isValue, inLocs, within, apartAt, apart, points, sepAt, septAt}
+use Rattle.logic.specs.Tests.{andb, orb, pick, any, all, digit, inPart, heapOf, allocated, part, rest, union, named, mayMeet, empty, isValue, inLocs, within, apartAt, apart, points, sepAt, septAt}
 use Rattle.logic.specs.Digits.{numOf, numOf-lt, digit-num, digit-lt}
 use Rattle.logic.specs.Reflect.{Is, is-iff, is-self, is-eq, is-and, is-or, is-not, is-all, is-any, decided, same-of-not}
 
@@ -81,33 +83,37 @@ is-named v s ℓ =
     is-iff (is-any (λ x. eqb (s x) ℓ) (λ x. s x ≡ ℓ) (suc v) (λ i l. is-eq (s i) ℓ))
     (λ q. (q .0, le-of-suc-le-suc (q .1), q .2)) (λ q. (q .0, omega (arith, q .1), q .2))
 
-module _ (v n : ℕ) (s g h : Map) (kg : Heap n g) (kh : Heap n h) where
+pub is-may-meet : (π : Profile) (v : ℕ) (s : Map) (ℓ : ℕ) → Is (mayMeet π v s ℓ) (MayMeet π v s ℓ)
+is-may-meet Strong v s ℓ = is-named v s ℓ
+is-may-meet Ordinary v s ℓ = record { to = λ _. tt; from = λ _. refl }
+
+module _ (π : Profile) (v n : ℕ) (s g h : Map) (kg : Heap n g) (kh : Heap n h) where
   -- strongly disjoint, at one location
   ApartAt : ℕ → Type 0
-  ApartAt ℓ = (¬ (Allocated g ℓ × Allocated h ℓ)) × ((¬ Locs g ℓ) ⊎ ((¬ Locs h ℓ) ⊎ Named v s ℓ))
+  ApartAt ℓ = (¬ (Allocated g ℓ × Allocated h ℓ)) × ((¬ Locs g ℓ) ⊎ ((¬ Locs h ℓ) ⊎ MayMeet π v s ℓ))
 
-  is-apart-at : (ℓ : ℕ) → Is (apartAt v n s g h ℓ) (ApartAt ℓ)
+  is-apart-at : (ℓ : ℕ) → Is (apartAt π v n s g h ℓ) (ApartAt ℓ)
   unfolding apartAt ApartAt
   is-apart-at ℓ =
-      is-and (not (andb (allocated g ℓ) (allocated h ℓ))) (orb (not (inLocs n g ℓ)) (orb (not (inLocs n h ℓ)) (named v s ℓ)))
+      is-and (not (andb (allocated g ℓ) (allocated h ℓ))) (orb (not (inLocs n g ℓ)) (orb (not (inLocs n h ℓ)) (mayMeet π v s ℓ)))
       (is-not (andb (allocated g ℓ) (allocated h ℓ)) (is-and (allocated g ℓ) (allocated h ℓ) (is-allocated g ℓ) (is-allocated h ℓ)))
-      (is-or (not (inLocs n g ℓ)) (orb (not (inLocs n h ℓ)) (named v s ℓ)) (is-not (inLocs n g ℓ) (is-locs n g ℓ kg))
-      (is-or (not (inLocs n h ℓ)) (named v s ℓ) (is-not (inLocs n h ℓ) (is-locs n h ℓ kh)) (is-named v s ℓ)))
+      (is-or (not (inLocs n g ℓ)) (orb (not (inLocs n h ℓ)) (mayMeet π v s ℓ)) (is-not (inLocs n g ℓ) (is-locs n g ℓ kg))
+      (is-or (not (inLocs n h ℓ)) (mayMeet π v s ℓ) (is-not (inLocs n h ℓ) (is-locs n h ℓ kh)) (is-may-meet π v s ℓ)))
 
-  pub is-apart : Is (apart v n s g h) (StronglyDisjoint v s g h)
+  pub is-apart : Is (apart π v n s g h) (Disjoint π v s g h)
   unfolding apart ApartAt
   is-apart =
-      is-iff (is-all (apartAt v n s g h) ApartAt (suc n) (λ ℓ l. is-apart-at ℓ))
+      is-iff (is-all (apartAt π v n s g h) ApartAt (suc n) (λ ℓ l. is-apart-at ℓ))
       (λ q. record {
         alone = λ ℓ both. q ℓ (omega (arith, allocated-low n g ℓ kg (both .0))) .0 both;
-        named = λ ℓ a b. ⊎-elim (λ f. absurd (f a)) (⊎-elim (λ f. absurd (f b)) (λ y. y)) (q ℓ (omega (arith, locs-low n g ℓ kg a)) .1);
+        meet = λ ℓ a b. ⊎-elim (λ f. absurd (f a)) (⊎-elim (λ f. absurd (f b)) (λ y. y)) (q ℓ (omega (arith, locs-low n g ℓ kg a)) .1);
       })
-      (λ q ℓ l. (q .alone ℓ, in-g ℓ (q .named ℓ)))
+      (λ q ℓ l. (q .alone ℓ, in-g ℓ (q .meet ℓ)))
     where
-      in-h : (ℓ : ℕ) → (Locs h ℓ → Named v s ℓ) → (¬ Locs h ℓ) ⊎ Named v s ℓ
+      in-h : (ℓ : ℕ) → (Locs h ℓ → MayMeet π v s ℓ) → (¬ Locs h ℓ) ⊎ MayMeet π v s ℓ
       in-h ℓ f = ⊎-elim (λ q. inr (f q)) inl (decided (inLocs n h ℓ) (is-locs n h ℓ kh))
 
-      in-g : (ℓ : ℕ) → (Locs g ℓ → Locs h ℓ → Named v s ℓ) → (¬ Locs g ℓ) ⊎ ((¬ Locs h ℓ) ⊎ Named v s ℓ)
+      in-g : (ℓ : ℕ) → (Locs g ℓ → Locs h ℓ → MayMeet π v s ℓ) → (¬ Locs g ℓ) ⊎ ((¬ Locs h ℓ) ⊎ MayMeet π v s ℓ)
       in-g ℓ f = ⊎-elim (λ q. inr (in-h ℓ (f q))) inl (decided (inLocs n g ℓ) (is-locs n g ℓ kg))
 
 -- ---- parts and their numbers
@@ -263,32 +269,32 @@ union-is g h u pt = fun-ext λ ℓ. go ℓ (ℕ-discrete (g ℓ) 0)
     go ℓ (no e) = rw (ne-eqb (g ℓ) 0 e) (⊎-elim (λ q. q .0) (λ q. absurd (e (q .0))) (pt ℓ))
 
 -- ---- operators 9 and 10, over two tests and the facts that they say
-module _ (v n : ℕ) (s : Map) (A B : Map → Bool) (P Q : Map → Type 0)
+module _ (π : Profile) (v n : ℕ) (s : Map) (A B : Map → Bool) (P Q : Map → Type 0)
     (isA : (g : Map) → Heap n g → Is (A g) (P g)) (isB : (g : Map) → Heap n g → Is (B g) (Q g)) (h : Map) (k : Heap n h) where
   -- part m serves
   Serves : ℕ → Type 0
   Serves m =
       ((ℓ : ℕ) → ℓ < suc n → (¬ (inPart m ℓ ≡ true)) ⊎ Allocated h ℓ) ×
-      (StronglyDisjoint v s (part h m) (rest h m) × (P (part h m) × Q (rest h m)))
+      (Disjoint π v s (part h m) (rest h m) × (P (part h m) × Q (rest h m)))
 
-  is-serves : (m : ℕ) → Is (sepAt v n s h A B m) (Serves m)
+  is-serves : (m : ℕ) → Is (sepAt π v n s h A B m) (Serves m)
   unfolding sepAt within Serves
   is-serves m =
-      is-and (within n m h) (andb (apart v n s (part h m) (rest h m)) (andb (A (part h m)) (B (rest h m))))
+      is-and (within n m h) (andb (apart π v n s (part h m) (rest h m)) (andb (A (part h m)) (B (rest h m))))
       (is-all (λ ℓ. orb (not (inPart m ℓ)) (allocated h ℓ)) (λ ℓ. (¬ (inPart m ℓ ≡ true)) ⊎ Allocated h ℓ) (suc n)
       (λ ℓ l. is-or (not (inPart m ℓ)) (allocated h ℓ) (is-not (inPart m ℓ) (is-self (inPart m ℓ))) (is-allocated h ℓ)))
-      (is-and (apart v n s (part h m) (rest h m)) (andb (A (part h m)) (B (rest h m)))
-      (is-apart v n s (part h m) (rest h m) (part-heap n h m k) (rest-heap n h m k))
+      (is-and (apart π v n s (part h m) (rest h m)) (andb (A (part h m)) (B (rest h m)))
+      (is-apart π v n s (part h m) (rest h m) (part-heap n h m k) (rest-heap n h m k))
       (is-and (A (part h m)) (B (rest h m)) (isA (part h m) (part-heap n h m k)) (isB (rest h m) (rest-heap n h m k))))
 
-  pub is-sep : Is (any (2 ^ n) (sepAt v n s h A B)) ((g : Map) × (r : Map) × Parts g r h × StronglyDisjoint v s g r × P g × Q r)
+  pub is-sep : Is (any (2 ^ n) (sepAt π v n s h A B)) ((g : Map) × (r : Map) × Parts g r h × Disjoint π v s g r × P g × Q r)
   unfolding Serves
   is-sep =
-      is-iff (is-any (sepAt v n s h A B) Serves (2 ^ n) (λ m l. is-serves m))
+      is-iff (is-any (sepAt π v n s h A B) Serves (2 ^ n) (λ m l. is-serves m))
       (λ q. let m = q .0 in (part h m, rest h m, part-parts h m, q .2 .1 .0, q .2 .1 .1 .0, q .2 .1 .1 .1))
       (λ q. back (q .0) (q .1) (q .2) (q .3) (q .4) (q .5))
     where
-      back : (g r : Map) → Parts g r h → StronglyDisjoint v s g r → P g → Q r → (m : ℕ) × (m < 2 ^ n) × Serves m
+      back : (g r : Map) → Parts g r h → Disjoint π v s g r → P g → Q r → (m : ℕ) × (m < 2 ^ n) × Serves m
       back g r pt d pg qr = (
         mask n g,
         mask-lt n g,
@@ -300,24 +306,24 @@ module _ (v n : ℕ) (s : Map) (A B : Map → Bool) (P Q : Map → Type 0)
 
   -- heap number c serves
   ServesAdded : ℕ → Type 0
-  ServesAdded c = StronglyDisjoint v s (heapOf n c) h × (P (heapOf n c) × Q (union (heapOf n c) h))
+  ServesAdded c = Disjoint π v s (heapOf n c) h × (P (heapOf n c) × Q (union (heapOf n c) h))
 
-  is-serves-added : (c : ℕ) → Is (septAt v n s h A B c) (ServesAdded c)
+  is-serves-added : (c : ℕ) → Is (septAt π v n s h A B c) (ServesAdded c)
   unfolding septAt ServesAdded
   is-serves-added c =
-      is-and (apart v n s (heapOf n c) h) (andb (A (heapOf n c)) (B (union (heapOf n c) h)))
-      (is-apart v n s (heapOf n c) h (heapOf-heap n c) k)
+      is-and (apart π v n s (heapOf n c) h) (andb (A (heapOf n c)) (B (union (heapOf n c) h)))
+      (is-apart π v n s (heapOf n c) h (heapOf-heap n c) k)
       (is-and (A (heapOf n c)) (B (union (heapOf n c) h)) (isA (heapOf n c) (heapOf-heap n c))
       (isB (union (heapOf n c) h) (union-heap n (heapOf n c) h (heapOf-heap n c) k)))
 
-  pub is-sept : Is (any ((n + 2) ^ n) (septAt v n s h A B)) ((g : Map) × (u : Map) × Heap n g × Parts g h u × StronglyDisjoint v s g h × P g × Q u)
+  pub is-sept : Is (any ((n + 2) ^ n) (septAt π v n s h A B)) ((g : Map) × (u : Map) × Heap n g × Parts g h u × Disjoint π v s g h × P g × Q u)
   unfolding ServesAdded
   is-sept =
-      is-iff (is-any (septAt v n s h A B) ServesAdded ((n + 2) ^ n) (λ c l. is-serves-added c))
+      is-iff (is-any (septAt π v n s h A B) ServesAdded ((n + 2) ^ n) (λ c l. is-serves-added c))
       (λ q. let g = heapOf n (q .0) in (g, union g h, heapOf-heap n (q .0), union-parts g h (q .2 .0 .alone), q .2 .0, q .2 .1 .0, q .2 .1 .1))
       (λ q. back (q .0) (q .1) (q .2) (q .3) (q .4) (q .5) (q .6))
     where
-      back : (g u : Map) → Heap n g → Parts g h u → StronglyDisjoint v s g h → P g → Q u → (c : ℕ) × (c < (n + 2) ^ n) × ServesAdded c
+      back : (g u : Map) → Heap n g → Parts g h u → Disjoint π v s g h → P g → Q u → (c : ℕ) × (c < (n + 2) ^ n) × ServesAdded c
       back g u kg pt d pg qu = (
         heapNumber n g,
         heapNumber-lt n g kg,

@@ -5,6 +5,7 @@ use mathlib.Core.List.{List}
 use Prim.Native.Nat.{ℕ, zero, suc, _+_, _%_}
 use lib.Dec.{eqb, leb}
 use lib.ListN.{length, getD}
+use Rattle.logic.specs.declared.Profile.{Profile}
 use Rattle.logic.specs.Formula.{Form}
 use Rattle.logic.specs.Heap.{Map}
 use Rattle.logic.specs.Tests.{andb, orb, all, any, short}
@@ -52,9 +53,9 @@ unfoldable pub allNamed : ℕ → List ℕ → Bool
 allNamed v f = all v (λ i. namedByAtom f (suc i))
 
 -- Fits, worked out
-abbrev pub fits : ℕ → ℕ → ℕ → Form → Map → Map → Bool
-fits v n p F s h = let r = short n p h in andb (truth v n F s h) r
+abbrev pub fits : Profile → ℕ → ℕ → ℕ → Form → Map → Map → Bool
+fits π v n p F s h = let r = short n p h in andb (truth π v n F s h) r
 
-unfoldable pub fitsBook : List ℕ → List ℕ → Bool
-fitsBook s m =
-    fits (varsOf s) (locsOf s) (pathOf s) (bookFormula s) (stackIn (varsOf s) m) (heapIn (varsOf s) (locsOf s) m)
+unfoldable pub fitsBook : Profile → List ℕ → List ℕ → Bool
+fitsBook π s m =
+    fits π (varsOf s) (locsOf s) (pathOf s) (bookFormula s) (stackIn (varsOf s) m) (heapIn (varsOf s) (locsOf s) m)

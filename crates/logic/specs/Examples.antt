@@ -4,6 +4,8 @@ use mathlib.Core.Bool.{Bool, true}
 use mathlib.Core.List.{List, [], _∷_}
 use Prim.Native.Nat.{ℕ, _<_}
 use lib.ListN.{length, getD}
+use Rattle.logic.specs.declared.Profile.{Profile}
+use Rattle.logic.specs.declared.Profile.the-variants.{Strong, Ordinary}
 use Rattle.logic.specs.Numbers.{yes-number, no-number, spent-number}
 use Rattle.logic.specs.Tests.{sameBytes, any, all, digit, inPart, heapOf, part, rest, union, without, named, empty, isValue, inLocs, within, apartAt, apart, points, chain, stepped, pathFrom, short, sepAt, septAt}
 use Rattle.logic.specs.Truth.{truth}
@@ -52,10 +54,10 @@ pub data Row : Type 0 where
   search : Searched → Row
 
 judging : List ℕ → List ℕ → ℕ → Row
-judging b m r = judge (record { book = b; model = m; number = r })
+judging b m r = judge (record { profile = Strong; book = b; model = m; number = r })
 
 searching : List ℕ → ℕ → ℕ → ℕ → List ℕ → Row
-searching b k r t m = search (record { book = b; budget = k; number = r; tried = t; model = m })
+searching b k r t m = search (record { profile = Strong; book = b; budget = k; number = r; tried = t; model = m })
 
 -- P1, P2: x ↦ x; P3: x ↦ nil; P4: ls(x,nil); P5: x ≠ nil; P6: nil ↦ x; P7, P8; P9; P10; P11 at p = 1 and p = 2; P12; P13 at
 -- n = 0 and n = 1, and its truths there; P14 both ways. Then paths: of two links, where p = 1; that of an added heap, which does
@@ -70,6 +72,7 @@ rows =
     ∷ searching (bookOf 1 0 0 (2 ∷ 1 ∷ 0 ∷ [])) 6 no-number 1 []
     ∷ searching (bookOf 1 1 1 (3 ∷ 0 ∷ 1 ∷ [])) 6 no-number 6 []
     ∷ judging (bookOf 2 3 3 meet) (1 ∷ 2 ∷ 3 ∷ 3 ∷ 255 ∷ []) no-number
+    ∷ judge (record { profile = Ordinary; book = bookOf 2 3 3 meet; model = 1 ∷ 2 ∷ 3 ∷ 3 ∷ 255 ∷ []; number = yes-number })
     ∷ judging (bookOf 3 3 3 meet) (1 ∷ 2 ∷ 3 ∷ 3 ∷ 3 ∷ 255 ∷ []) yes-number
     ∷ judging (bookOf 2 2 2 two-cells) (1 ∷ 2 ∷ 0 ∷ 0 ∷ []) yes-number
     ∷ judging (bookOf 1 1 1 replaced) (1 ∷ 1 ∷ []) yes-number

@@ -2,6 +2,8 @@
 use mathlib.Core.Path.{_≡_}
 use mathlib.Core.Logic.{_⊎_}
 use Prim.Native.Nat.{ℕ, suc, _<_, _≤_}
+use Rattle.logic.specs.declared.Profile.{Profile}
+use Rattle.logic.specs.declared.Profile.the-variants.{Strong, Ordinary}
 
 -- A stack gives each variable's location. A heap gives at each location the candidate's digit: "0 unallocated, d > 0 meaning
 -- value d−1". Both are functions of every number, so that they are the same functions whatever v and n are.
@@ -36,10 +38,16 @@ Locs h ℓ = Allocated h ℓ ⊎ ((j : ℕ) × Value h j ℓ)
 abbrev pub Named : ℕ → Map → ℕ → Type 0
 Named v s ℓ = (x : ℕ) × (x ≤ v) × (s x ≡ ℓ)
 
+-- where two pieces may meet: "each location in both locs is named"; in the ordinary profile "only that no cell be allocated
+-- twice" is asked, so anywhere
+abbrev pub MayMeet : Profile → ℕ → Map → ℕ → Type 0
+MayMeet Strong v s ℓ = Named v s ℓ
+MayMeet Ordinary v s ℓ = Unit {0}
+
 -- "Strongly disjoint: no location allocated in both, and each location in both locs is named."
-pub record StronglyDisjoint (v : ℕ) (s g h : Map) : Type 0 where
+pub record Disjoint (π : Profile) (v : ℕ) (s g h : Map) : Type 0 where
   pub alone : (ℓ : ℕ) → ¬ (Allocated g ℓ × Allocated h ℓ)
-  pub named : (ℓ : ℕ) → Locs g ℓ → Locs h ℓ → Named v s ℓ
+  pub meet : (ℓ : ℕ) → Locs g ℓ → Locs h ℓ → MayMeet π v s ℓ
 
 -- g and r are two parts of h: each location of h is in one of them, as it is in h, and not in the other
 abbrev pub Parts : Map → Map → Map → Type 0

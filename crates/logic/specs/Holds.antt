@@ -3,7 +3,8 @@
 use mathlib.Core.Path.{_≡_}
 use mathlib.Core.Logic.{_⊎_}
 use Prim.Native.Nat.{ℕ, suc, _<_, _≤_}
-use Rattle.logic.specs.Heap.{Map, Heap, Allocated, Value, StronglyDisjoint, Parts, Empty}
+use Rattle.logic.specs.declared.Profile.{Profile}
+use Rattle.logic.specs.Heap.{Map, Heap, Allocated, Value, Disjoint, Parts, Empty}
 use Rattle.logic.specs.Formula.{Form}
 use Rattle.logic.specs.Formula.Form.{same, diff, pts, ls, conj, disj, but, neg, sep, sept}
 
@@ -27,7 +28,7 @@ abbrev pub Segment : ℕ → ℕ → Map → Type 0
 Segment a b h = ((a ≡ b) × Empty h) ⊎ ((k : ℕ) × (1 ≤ k) × Chain k a b h)
 
 -- n bounds the added heaps; s is the stack and h "the heap at the node"
-module _ (v n : ℕ) where
+module _ (π : Profile) (v n : ℕ) where
   unfoldable pub Holds : Form → Map → Map → Type 0
   Holds (same x y) s h = (s x ≡ s y) × Empty h
   Holds (diff x y) s h = (¬ (s x ≡ s y)) × Empty h
@@ -37,5 +38,5 @@ module _ (v n : ℕ) where
   Holds (disj a b) s h = Holds a s h ⊎ Holds b s h
   Holds (but a b) s h = Holds a s h × (¬ Holds b s h)
   Holds (neg a) s h = ¬ Holds a s h
-  Holds (sep a b) s h = (g : Map) × (r : Map) × Parts g r h × StronglyDisjoint v s g r × Holds a s g × Holds b s r
-  Holds (sept a b) s h = (g : Map) × (u : Map) × Heap n g × Parts g h u × StronglyDisjoint v s g h × Holds a s g × Holds b s u
+  Holds (sep a b) s h = (g : Map) × (r : Map) × Parts g r h × Disjoint π v s g r × Holds a s g × Holds b s r
+  Holds (sept a b) s h = (g : Map) × (u : Map) × Heap n g × Parts g h u × Disjoint π v s g h × Holds a s g × Holds b s u

@@ -6,6 +6,7 @@ use mathlib.Core.Logic.{_⊎_}
 use Prim.Native.Nat.{ℕ, zero, suc, _+_, _≤_}
 use lib.Dec.{eqb, ltb}
 use lib.ListN.{length, getD}
+use Rattle.logic.specs.declared.Profile.{Profile}
 use Rattle.logic.specs.declared.Answer.{Answer}
 use Rattle.logic.specs.Numbers.{answer, yes-number, no-number, model-length, model-value}
 use Rattle.logic.specs.Checks.{Checks, done, check, _then_, upto, Answers}
@@ -46,13 +47,13 @@ modelChecks v n m = check (length m ≡ v + n) model-length 0 (upto (byteChecks 
 
 -- a model fits a formula: its root holds, and "p bounds the model": "one with a simple path (all locations different) of more
 -- than p links along its own cells doesn't fit"
-abbrev pub Fits : ℕ → ℕ → ℕ → Form → Map → Map → Type 0
-Fits v n p F s h = Holds v n F s h × NoLongPath p h
+abbrev pub Fits : Profile → ℕ → ℕ → ℕ → Form → Map → Map → Type 0
+Fits π v n p F s h = Holds π v n F s h × NoLongPath p h
 
 -- the model m fits the book s
-abbrev pub FitsBook : List ℕ → List ℕ → Type 0
-FitsBook s m =
-    Fits (varsOf s) (locsOf s) (pathOf s) (bookFormula s) (stackIn (varsOf s) m) (heapIn (varsOf s) (locsOf s) m)
+abbrev pub FitsBook : Profile → List ℕ → List ℕ → Type 0
+FitsBook π s m =
+    Fits π (varsOf s) (locsOf s) (pathOf s) (bookFormula s) (stackIn (varsOf s) m) (heapIn (varsOf s) (locsOf s) m)
 
 -- "Order: 10 to 13; then nodes upwards, ..; 16; then 17, 18 (model)"
 abbrev pub judgeChecks : List ℕ → List ℕ → Checks
@@ -63,5 +64,5 @@ abbrev pub Verdict : Type 0 → Answer → Type 0
 Verdict P a = (P × (a ≡ answer yes-number 0)) ⊎ ((¬ P) × (a ≡ answer no-number 0))
 
 -- what the model judge gives back for the book s and the model m
-unfoldable pub Judges : List ℕ → List ℕ → Answer → Type 0
-Judges s m a = Answers (judgeChecks s m) (Verdict (FitsBook s m)) a
+unfoldable pub Judges : Profile → List ℕ → List ℕ → Answer → Type 0
+Judges π s m a = Answers (judgeChecks s m) (Verdict (FitsBook π s m)) a

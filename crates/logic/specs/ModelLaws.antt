@@ -9,6 +9,7 @@ use native.Mathlib.Omega.{arith}
 use lib.Dec.{eqb, ltb}
 use lib.ListN.{getD}
 use borrow.Author.Tests.{le-ltb, eq-eqb}
+use Rattle.logic.specs.declared.Profile.{Profile}
 use Rattle.logic.specs.declared.Answer.{Answer}
 use Rattle.logic.specs.Checks.{Passes}
 use Rattle.logic.specs.CheckLaws.{Single, Refuses, passes-at, answers-single, refuses-upto}
@@ -78,14 +79,14 @@ module _ (v n : ℕ) (m : List ℕ) (ok : Passes (modelChecks v n m)) where
       low′ (suc i) = at i (decLt i n)
 
 -- whether a stack and a heap in range fit is worked out
-pub fits-is : (v n p : ℕ) (F : Form) (s h : Map) → ((x : ℕ) → s x ≤ n) → Heap n h → Is (fits v n p F s h) (Fits v n p F s h)
-fits-is v n p F s h low k = is-and (truth v n F s h) (short n p h) (truth-holds v n s low F h k) (is-short n p h k)
+pub fits-is : (π : Profile) (v n p : ℕ) (F : Form) (s h : Map) → ((x : ℕ) → s x ≤ n) → Heap n h → Is (fits π v n p F s h) (Fits π v n p F s h)
+fits-is π v n p F s h low k = is-and (truth π v n F s h) (short n p h) (truth-holds π v n s low F h k) (is-short n p h k)
 
 -- and so is whether a model in range fits
-pub is-fits : (s m : List ℕ) → Passes (modelChecks (varsOf s) (locsOf s) m) → Is (fitsBook s m) (FitsBook s m)
+pub is-fits : (π : Profile) (s m : List ℕ) → Passes (modelChecks (varsOf s) (locsOf s) m) → Is (fitsBook π s m) (FitsBook π s m)
 unfolding fitsBook
-is-fits s m ok =
-    fits-is (varsOf s) (locsOf s) (pathOf s) (bookFormula s) (stackIn (varsOf s) m) (heapIn (varsOf s) (locsOf s) m)
+is-fits π s m ok =
+    fits-is π (varsOf s) (locsOf s) (pathOf s) (bookFormula s) (stackIn (varsOf s) m) (heapIn (varsOf s) (locsOf s) m)
     (model-stack (varsOf s) (locsOf s) m ok .low) (model-heap (varsOf s) (locsOf s) m ok)
 
 pub verdict-single : (P : Type 0) → Single (Verdict P)
@@ -102,6 +103,6 @@ unfolding Refuses
 model-refuses v n m = (omega arith, refuses-upto (byteChecks v n m) (λ i. (omega arith, tt)) (v + n))
 
 -- two answers that the judge's statement allows are equal
-pub judges-single : (s m : List ℕ) → Single (Judges s m)
+pub judges-single : (π : Profile) (s m : List ℕ) → Single (Judges π s m)
 unfolding Judges
-judges-single s m = answers-single (judgeChecks s m) (Verdict (FitsBook s m)) (verdict-single (FitsBook s m))
+judges-single π s m = answers-single (judgeChecks s m) (Verdict (FitsBook π s m)) (verdict-single (FitsBook π s m))

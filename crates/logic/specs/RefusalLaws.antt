@@ -4,6 +4,7 @@ use mathlib.Core.List.{List}
 use mathlib.Core.Logic.{⊎-elim}
 use Prim.Native.Nat.{ℕ, zero, suc, _<_, _≤_}
 use native.Mathlib.Omega.{arith}
+use Rattle.logic.specs.declared.Profile.{Profile}
 use Rattle.logic.specs.declared.Answer.{Answer}
 use Rattle.logic.specs.Numbers.{book-length}
 use Rattle.logic.specs.Checks.{Checks, done, check, _then_, upto, Passes, Answers}
@@ -51,14 +52,14 @@ rest-from s o =
     (from-upto 10 (nameChecks (formulaOf s)) (λ i. (omega arith, tt)) (varsOf s)) (omega arith, tt)
 
 -- what a search that is not refused says
-pub record Answered (s : List ℕ) (b : ℕ) (o : List ℕ) (a : Answer) : Type 0 where
+pub record Answered (π : Profile) (s : List ℕ) (b : ℕ) (o : List ℕ) (a : Answer) : Type 0 where
   pub accepted : Accepted s
   pub rest : Passes (searchRest s o)
-  pub outcome : Outcome (FitsAt s) (totalOf s) b a
+  pub outcome : Outcome (FitsAt π s) (totalOf s) b a
 
-pub searches-answered : (s : List ℕ) (b : ℕ) (o : List ℕ) (a : Answer) (o′ : List ℕ) → Searches s b o a o′ → a .number < book-length → Answered s b o a
+pub searches-answered : (π : Profile) (s : List ℕ) (b : ℕ) (o : List ℕ) (a : Answer) (o′ : List ℕ) → Searches π s b o a o′ → a .number < book-length → Answered π s b o a
 unfolding Accepted
-searches-answered s b o a o′ q l =
-    let r = answers-below 10 (searchChecks s o) (Outcome (FitsAt s) (totalOf s) b) a (from-then 10 (bookChecks s) (searchRest s o) (book-from s) (rest-from s o)) (q .answer) l in
+searches-answered π s b o a o′ q l =
+    let r = answers-below 10 (searchChecks s o) (Outcome (FitsAt π s) (totalOf s) b) a (from-then 10 (bookChecks s) (searchRest s o) (book-from s) (rest-from s o)) (q .answer) l in
     let p = then-passes (bookChecks s) (searchRest s o) (r .0) in
     record { accepted = p .0; rest = p .1; outcome = r .1 }

@@ -4,6 +4,7 @@ use mathlib.Core.Path.{_≡_}
 use mathlib.Core.List.{List, _++_}
 use Prim.Native.Nat.{ℕ, _+_, _-_, _<_, _≤_}
 use lib.ListN.{length, drop}
+use Rattle.logic.specs.declared.Profile.{Profile}
 use Rattle.logic.specs.declared.Answer.{Answer}
 use Rattle.logic.specs.Numbers.{yes-number, no-number, spent-number, output-length}
 use Rattle.logic.specs.Checks.{Checks, done, check, _then_, upto, Answers}
@@ -15,12 +16,12 @@ use Rattle.logic.specs.Model.{Fits}
 use Rattle.logic.specs.Candidates.{total, stackOf, modelOf}
 
 -- candidate c fits the formula F
-abbrev pub CandidateFits : ℕ → ℕ → ℕ → Form → ℕ → Type 0
-CandidateFits v n p F c = Fits v n p F (stackOf v n c) (heapOf n c)
+abbrev pub CandidateFits : Profile → ℕ → ℕ → ℕ → Form → ℕ → Type 0
+CandidateFits π v n p F c = Fits π v n p F (stackOf v n c) (heapOf n c)
 
 -- candidate c fits the book s, and how many candidates it has
-abbrev pub FitsAt : List ℕ → ℕ → Type 0
-FitsAt s c = CandidateFits (varsOf s) (locsOf s) (pathOf s) (bookFormula s) c
+abbrev pub FitsAt : Profile → List ℕ → ℕ → Type 0
+FitsAt π s c = CandidateFits π (varsOf s) (locsOf s) (pathOf s) (bookFormula s) c
 
 abbrev pub totalOf : List ℕ → ℕ
 totalOf s = total (varsOf s) (locsOf s)
@@ -63,7 +64,7 @@ searchChecks s o = bookChecks s then searchRest s o
 
 -- what a search of the book s with budget b over the output o gives back, and the output that it leaves: "Output bytes change
 -- only with number 0, only at the front, and only as many as are written."
-pub record Searches (s : List ℕ) (b : ℕ) (o : List ℕ) (a : Answer) (o′ : List ℕ) : Type 0 where
-  pub answer : Answers (searchChecks s o) (Outcome (FitsAt s) (totalOf s) b) a
+pub record Searches (π : Profile) (s : List ℕ) (b : ℕ) (o : List ℕ) (a : Answer) (o′ : List ℕ) : Type 0 where
+  pub answer : Answers (searchChecks s o) (Outcome (FitsAt π s) (totalOf s) b) a
   pub wrote : a .number ≡ yes-number → o′ ≡ modelOf (varsOf s) (locsOf s) (a .tried - 1) ++ drop (varsOf s + locsOf s) o
   pub kept : ¬ (a .number ≡ yes-number) → o′ ≡ o

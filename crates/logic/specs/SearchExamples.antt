@@ -6,6 +6,7 @@ use Prim.Native.Nat.{ℕ, zero, suc, _+_, _-_, _≤_}
 use native.Mathlib.Omega.{arith}
 use lib.Dec.{eqb}
 use lib.ListN.{length, drop}
+use Rattle.logic.specs.declared.Profile.{Profile}
 use Rattle.logic.specs.declared.Answer.{Answer}
 use Rattle.logic.specs.Tests.{andb, sameBytes, heapOf}
 use Rattle.logic.specs.Checks.{upto, Passes}
@@ -23,6 +24,7 @@ use Rattle.logic.specs.SearchLaws.{outcome-single, outcome-worked-out, s
 
 -- a book, a budget, and what a search gives back: its number, its tried count, and the bytes that it writes
 pub record Searched : Type 0 where
+  pub profile : Profile
   pub book : List ℕ
   pub budget : ℕ
   pub number : ℕ
@@ -32,7 +34,7 @@ pub record Searched : Type 0 where
 -- every result that the search's statement allows, over any output with room, is the example's
 abbrev pub SearchedRight : Searched → Type 0
 SearchedRight w =
-    (o : List ℕ) (a : Answer) (o′ : List ℕ) → varsOf (w .book) + locsOf (w .book) ≤ length o → Searches (w .book) (w .budget) o a o′
+    (o : List ℕ) (a : Answer) (o′ : List ℕ) → varsOf (w .book) + locsOf (w .book) ≤ length o → Searches (w .profile) (w .book) (w .budget) o a o′
     → (a ≡ searched (w .number) (w .tried)) × (o′ ≡ w .model ++ drop (length (w .model)) o)
 
 -- ---- the test of an example: the book is accepted, atoms name its variables, and the number, the tried count and the bytes are those that are worked out
@@ -43,7 +45,7 @@ written s zero tried = modelOf (varsOf s) (locsOf s) (tried - 1)
 written s (suc _) tried = []
 
 unfoldable pub worked-out : Searched → Answer
-worked-out w = outcomeOf (totalOf (w .book)) (w .budget) (first (totalOf (w .book)) (fitsAt (w .book)))
+worked-out w = outcomeOf (totalOf (w .book)) (w .budget) (first (totalOf (w .book)) (fitsAt (w .profile) (w .book)))
 
 unfoldable pub searchedTest : Searched → Bool
 searchedTest w =
@@ -51,7 +53,7 @@ searchedTest w =
     (andb (andb (eqb (worked-out w .number) (w .number)) (eqb (worked-out w .tried) (w .tried)))
     (sameBytes (written (w .book) (w .number) (w .tried)) (w .model)))
 
-module _ (w : Searched) (e : searchedTest w ≡ true) (o : List ℕ) (a : Answer) (o′ : List ℕ) (room : varsOf (w .book) + locsOf (w .book) ≤ length o) (q : Searches (w .book) (w .budget) o a o′) where
+module _ (w : Searched) (e : searchedTest w ≡ true) (o : List ℕ) (a : Answer) (o′ : List ℕ) (room : varsOf (w .book) + locsOf (w .book) ≤ length o) (q : Searches (w .profile) (w .book) (w .budget) o a o′) where
   parts : (Accepted (w .book) × Passes (upto (nameChecks (formulaOf (w .book))) (varsOf (w .book)))) × (((worked-out w .number ≡ w .number) × (worked-out w .tried ≡ w .tried)) × (sameBytes (written (w .book) (w .number) (w .tried)) (w .model) ≡ true))
   unfolding searchedTest
   parts =
@@ -66,9 +68,9 @@ module _ (w : Searched) (e : searchedTest w ≡ true) (o : List ℕ) (a : Answer
   answer-is : a ≡ searched (w .number) (w .tried)
   unfolding worked-out outcomeOf
   answer-is =
-      outcome-single (FitsAt (w .book)) (totalOf (w .book)) (w .budget) a (worked-out w)
-      (searches-outcome (w .book) (w .budget) o a o′ (parts .0 .0) rest-passes q)
-      (outcome-worked-out (FitsAt (w .book)) (fitsAt (w .book)) (is-fits-at (w .book)) (totalOf (w .book)) (w .budget))
+      outcome-single (FitsAt (w .profile) (w .book)) (totalOf (w .book)) (w .budget) a (worked-out w)
+      (searches-outcome (w .profile) (w .book) (w .budget) o a o′ (parts .0 .0) rest-passes q)
+      (outcome-worked-out (FitsAt (w .profile) (w .book)) (fitsAt (w .profile) (w .book)) (is-fits-at (w .profile) (w .book)) (totalOf (w .book)) (w .budget))
       ∙ ap₂ searched (parts .1 .0 .0) (parts .1 .0 .1)
 
   bytes-are : o′ ≡ w .model ++ drop (length (w .model)) o

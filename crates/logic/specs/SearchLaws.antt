@@ -11,6 +11,7 @@ use native.Mathlib.Omega.{arith}
 use lib.Dec.{ltb}
 use lib.ListN.{length, drop}
 use borrow.Author.Tests.{lt-ltb, le-ltb, le-leb, lt-leb}
+use Rattle.logic.specs.declared.Profile.{Profile}
 use Rattle.logic.specs.declared.Answer.{Answer}
 use Rattle.logic.specs.Numbers.{answer, yes-number, no-number, spent-number, output-length}
 use Rattle.logic.specs.Checks.{upto, Passes, Answers}
@@ -47,11 +48,11 @@ outcome-single P t b x y (spent p w e) (found j q f) = absurd (p j q)
 outcome-single P t b x y (spent p w e) (none q f) = absurd (w q)
 outcome-single P t b x y (spent p w e) (spent q u f) = e ∙ sym f
 
-pub searches-single : (s : List ℕ) (b : ℕ) (o : List ℕ) (a c : Answer) (x y : List ℕ) → Searches s b o a x → Searches s b o c y → (a ≡ c) × (x ≡ y)
-searches-single s b o a c x y p q = (same, bytes (ℕ-discrete (a .number) yes-number))
+pub searches-single : (π : Profile) (s : List ℕ) (b : ℕ) (o : List ℕ) (a c : Answer) (x y : List ℕ) → Searches π s b o a x → Searches π s b o c y → (a ≡ c) × (x ≡ y)
+searches-single π s b o a c x y p q = (same, bytes (ℕ-discrete (a .number) yes-number))
   where
     same : a ≡ c
-    same = answers-single (searchChecks s o) (Outcome (FitsAt s) (totalOf s) b) (outcome-single (FitsAt s) (totalOf s) b) a c (p .answer) (q .answer)
+    same = answers-single (searchChecks s o) (Outcome (FitsAt π s) (totalOf s) b) (outcome-single (FitsAt π s) (totalOf s) b) a c (p .answer) (q .answer)
 
     bytes : Dec (a .number ≡ yes-number) → x ≡ y
     bytes (yes e) =
@@ -72,58 +73,58 @@ module _ (P : ℕ → Type 0) (t b : ℕ) where
   pub outcome-spent : b < t → ((i : ℕ) → i < b → ¬ P i) → Outcome P t b (searched spent-number b)
   outcome-spent l q = spent (λ k w. q k (w .1) (w .0 .fits)) (λ w. absurd (omega (arith, w .1))) refl
 
-module _ (s : List ℕ) (b : ℕ) (o : List ℕ) where
-  pub searches-refused : (a : Answer) → Reads s a → ¬ (a .number ≡ 0) → Searches s b o a o
+module _ (π : Profile) (s : List ℕ) (b : ℕ) (o : List ℕ) where
+  pub searches-refused : (a : Answer) → Reads s a → ¬ (a .number ≡ 0) → Searches π s b o a o
   unfolding Reads
   searches-refused a q f =
       record {
-        answer = answers-refused (bookChecks s) (Outcome (FitsAt s) (totalOf s) b) (searchRest s o) a q f;
+        answer = answers-refused (bookChecks s) (Outcome (FitsAt π s) (totalOf s) b) (searchRest s o) a q f;
         wrote = λ e. absurd (f e);
         kept = λ e. refl;
       }
 
   module _ (ok : Accepted s) where
     -- a stray variable, or too short an output
-    pub searches-rest : (a : Answer) → Answers (searchRest s o) Yes a → ¬ (a .number ≡ 0) → Searches s b o a o
+    pub searches-rest : (a : Answer) → Answers (searchRest s o) Yes a → ¬ (a .number ≡ 0) → Searches π s b o a o
     unfolding Accepted
     searches-rest a q f =
         record {
-          answer = answers-after (bookChecks s) (searchRest s o) (Outcome (FitsAt s) (totalOf s) b) a ok (answers-other (searchRest s o) (Outcome (FitsAt s) (totalOf s) b) a q f);
+          answer = answers-after (bookChecks s) (searchRest s o) (Outcome (FitsAt π s) (totalOf s) b) a ok (answers-other (searchRest s o) (Outcome (FitsAt π s) (totalOf s) b) a q f);
           wrote = λ e. absurd (f e);
           kept = λ e. refl;
         }
 
     -- "whatever it would find"
-    pub searches-short : Passes (upto (nameChecks (formulaOf s)) (varsOf s)) → length o < varsOf s + locsOf s → Searches s b o (answer output-length 0) o
+    pub searches-short : Passes (upto (nameChecks (formulaOf s)) (varsOf s)) → length o < varsOf s + locsOf s → Searches π s b o (answer output-length 0) o
     unfolding Answers
     searches-short named l =
         searches-rest (answer output-length 0)
         (answers-after (upto (nameChecks (formulaOf s)) (varsOf s)) (roomChecks s o) Yes (answer output-length 0) named (inl (λ w. absurd (omega arith), refl))) (λ e. absurd (omega arith))
 
-    module _ (rest : Passes (searchRest s o)) (a : Answer) (q : Outcome (FitsAt s) (totalOf s) b a) where
-      pub outcome-answers : Answers (searchChecks s o) (Outcome (FitsAt s) (totalOf s) b) a
+    module _ (rest : Passes (searchRest s o)) (a : Answer) (q : Outcome (FitsAt π s) (totalOf s) b a) where
+      pub outcome-answers : Answers (searchChecks s o) (Outcome (FitsAt π s) (totalOf s) b) a
       unfolding Accepted
       outcome-answers =
-          answers-after (bookChecks s) (searchRest s o) (Outcome (FitsAt s) (totalOf s) b) a ok (answers-passed (searchRest s o) (Outcome (FitsAt s) (totalOf s) b) a rest q)
+          answers-after (bookChecks s) (searchRest s o) (Outcome (FitsAt π s) (totalOf s) b) a ok (answers-passed (searchRest s o) (Outcome (FitsAt π s) (totalOf s) b) a rest q)
 
-      pub searches-wrote : (o′ : List ℕ) → a .number ≡ yes-number → o′ ≡ modelOf (varsOf s) (locsOf s) (a .tried - 1) ++ drop (varsOf s + locsOf s) o → Searches s b o a o′
+      pub searches-wrote : (o′ : List ℕ) → a .number ≡ yes-number → o′ ≡ modelOf (varsOf s) (locsOf s) (a .tried - 1) ++ drop (varsOf s + locsOf s) o → Searches π s b o a o′
       searches-wrote o′ e w = record { answer = outcome-answers; wrote = λ _. w; kept = λ f. absurd (f e) }
 
-      pub searches-kept : ¬ (a .number ≡ yes-number) → Searches s b o a o
+      pub searches-kept : ¬ (a .number ≡ yes-number) → Searches π s b o a o
       searches-kept f = record { answer = outcome-answers; wrote = λ e. absurd (f e); kept = λ _. refl }
 
   -- what a search of an accepted book says, where atoms name its variables and there is room
-  pub searches-outcome : (a : Answer) (o′ : List ℕ) → Accepted s → Passes (searchRest s o) → Searches s b o a o′ → Outcome (FitsAt s) (totalOf s) b a
+  pub searches-outcome : (a : Answer) (o′ : List ℕ) → Accepted s → Passes (searchRest s o) → Searches π s b o a o′ → Outcome (FitsAt π s) (totalOf s) b a
   unfolding Accepted
   searches-outcome a o′ ok rest q =
-      answers-rest (searchChecks s o) (Outcome (FitsAt s) (totalOf s) b) a (passes-then (bookChecks s) (searchRest s o) ok rest) (q .answer)
+      answers-rest (searchChecks s o) (Outcome (FitsAt π s) (totalOf s) b) a (passes-then (bookChecks s) (searchRest s o) ok rest) (q .answer)
 
 -- ---- the search, worked out
 
-pub is-fits-at : (s : List ℕ) (c : ℕ) → Is (fitsAt s c) (FitsAt s c)
+pub is-fits-at : (π : Profile) (s : List ℕ) (c : ℕ) → Is (fitsAt π s c) (FitsAt π s c)
 unfolding fitsAt
-is-fits-at s c =
-    fits-is (varsOf s) (locsOf s) (pathOf s) (bookFormula s) (stackOf (varsOf s) (locsOf s) c) (heapOf (locsOf s) c)
+is-fits-at π s c =
+    fits-is π (varsOf s) (locsOf s) (pathOf s) (bookFormula s) (stackOf (varsOf s) (locsOf s) c) (heapOf (locsOf s) c)
     (stackOf-stack (varsOf s) (locsOf s) c .low) (heapOf-heap (locsOf s) c)
 
 -- k is the lowest number below t at which the test passes, or t

@@ -4,6 +4,8 @@ use mathlib.Core.Bool.{Bool, true, false, not}
 use mathlib.Core.List.{List, [], _∷_}
 use Prim.Native.Nat.{ℕ, zero, suc, pred, _+_, _/_, _%_}
 use lib.Dec.{eqb, ltb}
+use Rattle.logic.specs.declared.Profile.{Profile}
+use Rattle.logic.specs.declared.Profile.the-variants.{Strong, Ordinary}
 use Rattle.logic.specs.Heap.{Map}
 
 abbrev pub andb : Bool → Bool → Bool
@@ -90,17 +92,22 @@ inLocs n h ℓ = let r = isValue n h ℓ in orb (allocated h ℓ) r
 unfoldable pub within : ℕ → ℕ → Map → Bool
 within n m h = all (suc n) (λ ℓ. orb (not (inPart m ℓ)) (allocated h ℓ))
 
--- ℓ is not allocated in both, and is named if it is in both locs
-unfoldable pub apartAt : ℕ → ℕ → Map → Map → Map → ℕ → Bool
-apartAt v n s g h ℓ =
-    let q = named v s ℓ in
+-- two pieces may meet at ℓ
+abbrev pub mayMeet : Profile → ℕ → Map → ℕ → Bool
+mayMeet Strong v s ℓ = named v s ℓ
+mayMeet Ordinary v s ℓ = true
+
+-- ℓ is not allocated in both, and the two may meet there if it is in both locs
+unfoldable pub apartAt : Profile → ℕ → ℕ → Map → Map → Map → ℕ → Bool
+apartAt π v n s g h ℓ =
+    let q = mayMeet π v s ℓ in
     let r = orb (not (inLocs n h ℓ)) q in
     let t = orb (not (inLocs n g ℓ)) r in
     andb (not (andb (allocated g ℓ) (allocated h ℓ))) t
 
--- g and h are strongly disjoint
-unfoldable pub apart : ℕ → ℕ → Map → Map → Map → Bool
-apart v n s g h = all (suc n) (apartAt v n s g h)
+-- g and h are disjoint as the profile asks
+unfoldable pub apart : Profile → ℕ → ℕ → Map → Map → Map → Bool
+apart π v n s g h = all (suc n) (apartAt π v n s g h)
 
 -- D is just a, and its value is b; nil is never allocated
 unfoldable pub points : ℕ → ℕ → ℕ → Map → Bool
@@ -132,16 +139,16 @@ unfoldable pub short : ℕ → ℕ → Map → Bool
 short n p h = not (any (suc n) (pathFrom h (suc p)))
 
 -- part m of h, which passes A, and the rest, which passes B, are strongly disjoint
-unfoldable pub sepAt : ℕ → ℕ → Map → Map → (Map → Bool) → (Map → Bool) → ℕ → Bool
-sepAt v n s h A B m =
+unfoldable pub sepAt : Profile → ℕ → ℕ → Map → Map → (Map → Bool) → (Map → Bool) → ℕ → Bool
+sepAt π v n s h A B m =
     let q = B (rest h m) in
     let r = andb (A (part h m)) q in
-    let t = andb (apart v n s (part h m) (rest h m)) r in
+    let t = andb (apart π v n s (part h m) (rest h m)) r in
     andb (within n m h) t
 
 -- heap number c, which passes A, is strongly disjoint from h, and the two together pass B
-unfoldable pub septAt : ℕ → ℕ → Map → Map → (Map → Bool) → (Map → Bool) → ℕ → Bool
-septAt v n s h A B c =
+unfoldable pub septAt : Profile → ℕ → ℕ → Map → Map → (Map → Bool) → (Map → Bool) → ℕ → Bool
+septAt π v n s h A B c =
     let q = B (union (heapOf n c) h) in
     let r = andb (A (heapOf n c)) q in
-    andb (apart v n s (heapOf n c) h) r
+    andb (apart π v n s (heapOf n c) h) r

@@ -3,6 +3,7 @@ use mathlib.Core.Bool.{Bool}
 use mathlib.Core.List.{List}
 use Prim.Native.Nat.{ℕ, zero, suc, _+_}
 use lib.Dec.{ltb, leb}
+use Rattle.logic.specs.declared.Profile.{Profile}
 use Rattle.logic.specs.declared.Answer.{Answer}
 use Rattle.logic.specs.Numbers.{yes-number, no-number, spent-number}
 use Rattle.logic.specs.Tests.{pick, heapOf}
@@ -12,8 +13,8 @@ use Rattle.logic.specs.Candidates.{stackOf}
 use Rattle.logic.specs.Search.{searched}
 
 -- FitsAt, worked out
-unfoldable pub fitsAt : List ℕ → ℕ → Bool
-fitsAt s c = fits (varsOf s) (locsOf s) (pathOf s) (bookFormula s) (stackOf (varsOf s) (locsOf s) c) (heapOf (locsOf s) c)
+unfoldable pub fitsAt : Profile → List ℕ → ℕ → Bool
+fitsAt π s c = fits π (varsOf s) (locsOf s) (pathOf s) (bookFormula s) (stackOf (varsOf s) (locsOf s) c) (heapOf (locsOf s) c)
 
 -- the lowest number below t at which the test passes, or t
 unfoldable pub first : ℕ → (ℕ → Bool) → ℕ

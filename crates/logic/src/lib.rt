@@ -17,6 +17,12 @@ pub const TABLE: usize = 3 * NODES;
 
 pub type Table = [u8; TABLE];
 
+// "A profile, picked by the caller": what operators 9 and 10 ask of two heaps. See specs/Heap.antt.
+pub enum Profile {
+    Strong,
+    Ordinary,
+}
+
 // The numbers, as specs/Numbers.antt lists them.
 pub const YES: u64 = 0;
 

@@ -3,6 +3,7 @@ use mathlib.Core.Path.{_≡_}
 use mathlib.Core.List.{List, _++_}
 use Prim.Native.Nat.{ℕ, _*_}
 use lib.ListN.{length, drop, replicate}
+use Rattle.logic.specs.declared.Profile.the-variants.{Strong}
 use Rattle.logic.specs.declared.Answer.{Answer}
 use Rattle.logic.specs.Book.{most, varsOf, locsOf}
 use Rattle.logic.specs.Search.{Searches}
@@ -20,7 +21,7 @@ blank = replicate (2 * most) 0
 pub record Prints (s lines : List ℕ) : Type 0 where
   pub answer : Answer
   pub model : List ℕ
-  pub search : Searches s budget blank answer model
+  pub search : Searches Strong s budget blank answer model
   pub shows : lines ≡ printed answer (varsOf s) (locsOf s) model
 
 -- the size that is given back for the book s over the output o, and the output that is left: "Output bytes change .. only at the

@@ -5,6 +5,7 @@ use mathlib.Core.List.{List, [], _∷_}
 use Prim.Native.Nat.{ℕ}
 use native.Mathlib.Omega.{arith}
 use lib.ListN.{drop}
+use Rattle.logic.specs.declared.Profile.the-variants.{Strong}
 use Rattle.logic.specs.declared.Answer.{Answer}
 use Rattle.logic.specs.Numbers.{yes-number}
 use Rattle.logic.specs.Tests.{any, all, digit, heapOf, points, stepped, pathFrom, short, sameBytes}
@@ -24,7 +25,7 @@ abbrev P1-book : List ℕ
 P1-book = 2 ∷ 1 ∷ 11 ∷ 0 ∷ 3 ∷ 0 ∷ 2 ∷ 14 ∷ 0 ∷ 3 ∷ 0 ∷ 1 ∷ 1 ∷ 1 ∷ 3 ∷ 1 ∷ 1 ∷ []
 
 abbrev P1 : Searched
-P1 = record { book = P1-book; budget = budget; number = yes-number; tried = 6; model = 1 ∷ 1 ∷ [] }
+P1 = record { profile = Strong; book = P1-book; budget = budget; number = yes-number; tried = 6; model = 1 ∷ 1 ∷ [] }
 
 P1-test : searchedTest P1 ≡ true
 unfolding searchedTest worked-out written sameBytes fitsAt first outcomeOf digitsOf bytesTo accepted laidOut boundsOk formulaOk nodeOk operandOk tableOk allNamed namedByAtom truth any all digit heapOf points stepped pathFrom short kindOf uses tree deep formOf atomOf

@@ -6,6 +6,7 @@ use Prim.Native.Nat.{ℕ, _+_, _-_, _*_, _<_, _≤_}
 use native.Mathlib.Decide.{ℕ-discrete}
 use native.Mathlib.Omega.{arith}
 use lib.ListN.{length, drop, getD, getD-replicate, length-append, List·getD-append}
+use Rattle.logic.specs.declared.Profile.the-variants.{Strong}
 use Rattle.logic.specs.declared.Answer.{Answer}
 use Rattle.logic.specs.Numbers.{yes-number}
 use Rattle.logic.specs.Book.{most, varsOf, locsOf, formulaOf, Accepted, Opens}
@@ -27,7 +28,7 @@ use Rattle.print.specs.Prints.{budget, blank, Prints, PutsPrinted}
 
 pub prints-single : (s x y : List ℕ) → Prints s x → Prints s y → x ≡ y
 prints-single s x y p q =
-    let same = searches-single s budget blank (p .answer) (q .answer) (p .model) (q .model) (p .search) (q .search) in
+    let same = searches-single Strong s budget blank (p .answer) (q .answer) (p .model) (q .model) (p .search) (q .search) in
     p .shows ∙ ap₂ (λ (a : Answer) (m : List ℕ). printed a (varsOf s) (locsOf s) m) (same .0) (same .1) ∙ sym (q .shows)
 
 -- two results that the statement allows are equal
@@ -41,9 +42,9 @@ pub printed-within : {s o : List ℕ} {r : ℕ} {o′ : List ℕ} → PutsPrinte
 printed-within {s} {o} {r} p = omega (arith, p .size, ap length (p .output), length-append (p .lines) (drop r o))
 
 -- a search whose model was found, and the book opened beside it
-module _ (s : List ℕ) (a : Answer) (m : List ℕ) (q : Searches s budget blank a m) (e : a .number ≡ yes-number) where
+module _ (s : List ℕ) (a : Answer) (m : List ℕ) (q : Searches Strong s budget blank a m) (e : a .number ≡ yes-number) where
   found-accepted : Accepted s
-  found-accepted = searches-answered s budget blank a m q (omega arith) .accepted
+  found-accepted = searches-answered Strong s budget blank a m q (omega arith) .accepted
 
   -- the stack's bytes of the model are locations
   found-locations : Locations (varsOf s) m
@@ -76,7 +77,7 @@ bounds-low s b v n p o = go (ℕ-discrete (b .number) yes-number)
         (vars-low s (formulaOf s) v n p q, locs-low s (formulaOf s) v n p q)
     go (no f) = (omega (arith, o .none f .0), omega (arith, o .none f .1))
 
-module _ (s : List ℕ) (a : Answer) (m : List ℕ) (q : Searches s budget blank a m) (b : Answer) (v n p : ℕ) (o : Opens s b v n p) where
+module _ (s : List ℕ) (a : Answer) (m : List ℕ) (q : Searches Strong s budget blank a m) (b : Answer) (v n p : ℕ) (o : Opens s b v n p) where
   -- the model's first bytes are locations, found or not: the output before the search has 0 everywhere
   pub searched-locations : Locations v m
   searched-locations i l = go (ℕ-discrete (a .number) yes-number)

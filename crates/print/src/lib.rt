@@ -2,6 +2,7 @@
 use book::open;
 use lines::put_lines;
 use logic::MOST;
+use logic::Profile;
 use search::search;
 ghost use Rattle.print.specs.Prints.{PutsPrinted};
 
@@ -11,7 +12,7 @@ pub fn put_printed(book: &[u8], out: &mut [u8; 256]) -> usize
     ensures { λ r. ⌜ PutsPrinted (now (book .entry)) (now (out .entry)) r (now (out .exit)) ⌝ }
 {
     let mut model = [0u8; 2 * MOST];
-    let answer = search(book, 1000000, &mut model);
+    let answer = search(Profile::Strong, book, 1000000, &mut model);
     let bounds = open(book);
     put_lines(answer, &model, bounds.v as usize, bounds.n as usize, out)
 }

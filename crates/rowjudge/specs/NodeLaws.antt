@@ -31,10 +31,10 @@ atom-arrays o x y = each-atom (λ o. (arraysIn (atomOf o x y) ≡ 0) × (setsIn 
 module _ (g : Setting) (q : List ℕ) where
   -- an atom's truth is its rows' condition
   pub judged-atom : (arrays : List (List ℕ)) → Ready g q arrays → (op x y A S i j : ℕ) (h : Bool) → 1 ≤ op → op ≤ 4
-      → Is h (Holds (g .v) (g .n) (atomOf op x y) (given g q .stack) (on (given g q .array A) (given g q .set S)))
+      → Is h (Holds (g .profile) (g .v) (g .n) (atomOf op x y) (given g q .stack) (on (given g q .array A) (given g q .set S)))
       → Judged g q (atomOf op x y) A S i j (record { holds = h; array = i; set = j })
   judged-atom arrays r op x y A S i j h l m t =
-      let e = flat (g .v) (g .n) (given g q) (r .in-range) (atomOf op x y) A S i j (flat-atoms op x y l m) in
+      let e = flat (g .profile) (g .v) (g .n) (given g q) (r .in-range) (atomOf op x y) A S i j (flat-atoms op x y l m) in
       let z = atom-arrays op x y l m in
       record { holds = is-iff t (e .1) (e .0); array = omega (arith, z .0); set = omega (arith, z .1) }
 
@@ -52,7 +52,7 @@ module _ (g : Setting) (q : List ℕ) where
     judged-but e p d = rw (e, d) (record { holds = is-and (r .first) (not (r .second)) (p .first) (is-not (r .second) (p .second)); array = p .array; set = p .set })
 
     pub judged-sep : (h₁ h₂ s₁ s₂ : Bool) → op ≡ 9 → JudgedBoth g q a b A j (j + 1) i (j + 2) r → h₁ ≡ andb (r .first) (r .second) → h₂ ≡ andb h₁ s₁ → h ≡ andb h₂ s₂
-        → Is s₁ (Splits (given g q .set S) (given g q .set j) (given g q .set (j + 1))) → Is s₂ (Apart (g .v) (given g q .stack) (given g q .array A) (given g q .set j) (given g q .set (j + 1)))
+        → Is s₁ (Splits (given g q .set S) (given g q .set j) (given g q .set (j + 1))) → Is s₂ (Apart (g .profile) (g .v) (given g q .stack) (given g q .array A) (given g q .set j) (given g q .set (j + 1)))
         → Judged g q (joinOf op a b) A S i j (record { holds = h; array = r .array; set = r .set })
     unfolding joinOf joinFrom5 Condition arraysIn setsIn
     judged-sep h₁ h₂ s₁ s₂ e p d₁ d₂ d x y =
@@ -63,7 +63,7 @@ module _ (g : Setting) (q : List ℕ) where
         })
 
     pub judged-sept : (h₁ h₂ h₃ s₁ s₂ s₃ : Bool) → op ≡ 10 → JudgedBoth g q a b i j (j + 1) (i + 1) (j + 2) r → h₁ ≡ andb (r .first) (r .second) → h₂ ≡ andb h₁ s₁ → h₃ ≡ andb h₂ s₂ → h ≡ andb h₃ s₃
-        → Is s₁ (Splits (given g q .set (j + 1)) (given g q .set j) (given g q .set S)) → Is s₂ (Apart (g .v) (given g q .stack) (given g q .array i) (given g q .set j) (given g q .set S))
+        → Is s₁ (Splits (given g q .set (j + 1)) (given g q .set j) (given g q .set S)) → Is s₂ (Apart (g .profile) (g .v) (given g q .stack) (given g q .array i) (given g q .set j) (given g q .set S))
         → Is s₃ (Same (given g q .array A) (given g q .array i) (given g q .set S)) → Judged g q (joinOf op a b) A S i j (record { holds = h; array = r .array; set = r .set })
     unfolding joinOf joinFrom5 Condition arraysIn setsIn
     judged-sept h₁ h₂ h₃ s₁ s₂ s₃ e p d₁ d₂ d₃ d x y z =
@@ -80,7 +80,7 @@ module _ (g : Setting) (q : List ℕ) where
   pub judged-both : (a b : Form) (A S T i j : ℕ) (u w : Told) → Judged g q a A S i j u → Judged g q b A T (u .array) (u .set) w
       → JudgedBoth g q a b A S T i j (record { first = u .holds; second = w .holds; array = w .array; set = w .set })
   judged-both a b A S T i j u w p r =
-      let e : Condition (g .v) (g .n) (given g q) b A T (u .array) (u .set) ≡ Condition (g .v) (g .n) (given g q) b A T (i + arraysIn a) (j + setsIn a) = ap₂ (Condition (g .v) (g .n) (given g q) b A T) (p .array) (p .set) in
+      let e : Condition (g .profile) (g .v) (g .n) (given g q) b A T (u .array) (u .set) ≡ Condition (g .profile) (g .v) (g .n) (given g q) b A T (i + arraysIn a) (j + setsIn a) = ap₂ (Condition (g .profile) (g .v) (g .n) (given g q) b A T) (p .array) (p .set) in
       record { first = p .holds; second = subst (Is (w .holds)) e (r .holds); array = omega (arith, p .array, r .array); set = omega (arith, p .set, r .set) }
 
 -- ---- there are arrays and sets enough

@@ -11,15 +11,16 @@ use lib.Dec.{eqb, ltb}
 use lib.Bits.{bitAnd, bitOr, or-lt, and-le-l}
 use lib.ListN.{getD}
 use borrow.Author.Tests.{lt-ltb, ne-eqb}
-use Rattle.logic.specs.Heap.{Map, Heap, Locs, Named, Empty}
+use Rattle.logic.specs.declared.Profile.{Profile}
+use Rattle.logic.specs.Heap.{Map, Heap, Locs, MayMeet, Empty}
 use Rattle.logic.specs.Holds.{Points, Segment, Holds}
 use Rattle.logic.specs.Table.{atomOf}
 use Rattle.logic.specs.Reflect.{Is, is-iff, is-eq, is-and, is-not, false-true, decided}
-use Rattle.logic.specs.Tests.{andb, orb, pick, inPart, part, named}
-use Rattle.logic.specs.Agree.{is-named, locs-low}
+use Rattle.logic.specs.Tests.{andb, orb, pick, inPart, part, mayMeet}
+use Rattle.logic.specs.Agree.{is-may-meet, locs-low}
 use Rattle.logic.specs.Model.{heapIn, digitOf}
 use Rattle.logic.specs.Book.{most}
-use Rattle.cells.specs.Cells.{full, word, cells, Spread, Unnamed, Met}
+use Rattle.cells.specs.Cells.{full, word, cells, Spread, Barred, Met}
 use Rattle.cells.specs.Sets.{in-past, in-or, same-set, is-meet-nothing}
 use Rattle.cells.specs.Packing.{same-cells}
 use Rattle.cells.specs.Heaps.{part-is}
@@ -89,17 +90,17 @@ is-splits m x y lm lx ly =
     members q ℓ false d false e false f = refl
     members q ℓ false d false e true f = ⊎-elim (λ z. false-true (sym d ∙ z)) (λ z. false-true (sym e ∙ z)) (q .make ℓ .0 f)
 
--- APART, over two heaps and what each of them has of the unnamed locations
-module _ (v n : ℕ) (s A : Map) (S1 S2 : Set) (u w1 w2 x y : ℕ) (k1 : Heap n (on A S1)) (un : Unnamed v n s u)
+-- APART, over two heaps and what each of them has of the barred locations
+module _ (π : Profile) (v n : ℕ) (s A : Map) (S1 S2 : Set) (u w1 w2 x y : ℕ) (k1 : Heap n (on A S1)) (un : Barred π v n s u)
     (e1 : cells w1 ≡ on A S1) (e2 : cells w2 ≡ on A S2) (m1 : Met u w1 x) (m2 : Met u w2 y) where
-  pub is-apart-met : Is (eqb (bitAnd x y) 0) (Apart v s A S1 S2)
+  pub is-apart-met : Is (eqb (bitAnd x y) 0) (Apart π v s A S1 S2)
   is-apart-met =
       is-iff (is-meet-nothing 8 x y (m1 .small))
-      (λ f ℓ a b. ⊎-elim (λ z. z) (λ z. absurd (meets f ℓ a b z)) (decided (named v s ℓ) (is-named v s ℓ)))
+      (λ f ℓ a b. ⊎-elim (λ z. z) (λ z. absurd (meets f ℓ a b z)) (decided (mayMeet π v s ℓ) (is-may-meet π v s ℓ)))
       (λ q ℓ a b. un .member ℓ .to (m1 .member ℓ .to a .1) .1
       (q ℓ (with-values A S1 ℓ .0 (subst (λ (h : Map). Locs h ℓ) e1 (m1 .member ℓ .to a .0))) (with-values A S2 ℓ .0 (subst (λ (h : Map). Locs h ℓ) e2 (m2 .member ℓ .to b .0)))))
     where
-      meets : ((ℓ : ℕ) → inPart x ℓ ≡ true → ¬ (inPart y ℓ ≡ true)) → (ℓ : ℕ) → WithValues A S1 ℓ → WithValues A S2 ℓ → ¬ ¬ Named v s ℓ
+      meets : ((ℓ : ℕ) → inPart x ℓ ≡ true → ¬ (inPart y ℓ ≡ true)) → (ℓ : ℕ) → WithValues A S1 ℓ → WithValues A S2 ℓ → ¬ ¬ MayMeet π v s ℓ
       meets f ℓ a b z =
           let l1 = with-values A S1 ℓ .1 a in
           let l2 = with-values A S2 ℓ .1 b in
@@ -115,20 +116,20 @@ is-same-heap A B S w1 w2 l1 l2 e1 e2 =
 
 -- ---- atoms
 
-module _ (v n op x y : ℕ) (s h : Map) where
-  pub is-same-atom : (a b w : ℕ) (r z : Bool) → cells w ≡ h → op ≡ 1 → a ≡ s x → b ≡ s y → r ≡ andb (eqb a b) z → Is z (Empty (cells w)) → Is r (Holds v n (atomOf op x y) s h)
+module _ (π : Profile) (v n op x y : ℕ) (s h : Map) where
+  pub is-same-atom : (a b w : ℕ) (r z : Bool) → cells w ≡ h → op ≡ 1 → a ≡ s x → b ≡ s y → r ≡ andb (eqb a b) z → Is z (Empty (cells w)) → Is r (Holds π v n (atomOf op x y) s h)
   unfolding Holds atomOf
   is-same-atom a b w r z m e d f c i = rw (e, c, d, f, ← m) (is-and (eqb (s x) (s y)) z (is-eq (s x) (s y)) i)
 
-  pub is-diff-atom : (a b w : ℕ) (r z : Bool) → cells w ≡ h → op ≡ 2 → a ≡ s x → b ≡ s y → r ≡ andb (not (eqb a b)) z → Is z (Empty (cells w)) → Is r (Holds v n (atomOf op x y) s h)
+  pub is-diff-atom : (a b w : ℕ) (r z : Bool) → cells w ≡ h → op ≡ 2 → a ≡ s x → b ≡ s y → r ≡ andb (not (eqb a b)) z → Is z (Empty (cells w)) → Is r (Holds π v n (atomOf op x y) s h)
   unfolding Holds atomOf
   is-diff-atom a b w r z m e d f c i = rw (e, c, d, f, ← m) (is-and (not (eqb (s x) (s y))) z (is-not (eqb (s x) (s y)) (is-eq (s x) (s y))) i)
 
-  pub is-pts-atom : (a b w : ℕ) (r : Bool) → cells w ≡ h → op ≡ 3 → a ≡ s x → b ≡ s y → Is r (Points a b (cells w)) → Is r (Holds v n (atomOf op x y) s h)
+  pub is-pts-atom : (a b w : ℕ) (r : Bool) → cells w ≡ h → op ≡ 3 → a ≡ s x → b ≡ s y → Is r (Points a b (cells w)) → Is r (Holds π v n (atomOf op x y) s h)
   unfolding Holds atomOf
   is-pts-atom a b w r m e d f i = rw (e, ← d, ← f, ← m) i
 
-  pub is-ls-atom : (a b w : ℕ) (r : Bool) → cells w ≡ h → op ≡ 4 → a ≡ s x → b ≡ s y → Is r (Segment a b (cells w)) → Is r (Holds v n (atomOf op x y) s h)
+  pub is-ls-atom : (a b w : ℕ) (r : Bool) → cells w ≡ h → op ≡ 4 → a ≡ s x → b ≡ s y → Is r (Segment a b (cells w)) → Is r (Holds π v n (atomOf op x y) s h)
   unfolding Holds atomOf
   is-ls-atom a b w r m e d f i = rw (e, ← d, ← f, ← m) i
 

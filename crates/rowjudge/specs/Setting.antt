@@ -7,7 +7,7 @@ use Rattle.logic.specs.Formula.{Form}
 use Rattle.logic.specs.Reflect.{Is}
 use Rattle.logic.specs.Model.{stackIn}
 use Rattle.logic.specs.Book.{most}
-use Rattle.cells.specs.Cells.{cells, Unnamed}
+use Rattle.cells.specs.Cells.{cells, Barred}
 use Rattle.rows.specs.Assignment.{Assignment, ValuesInRange}
 use Rattle.rows.specs.Table.{arraysIn, setsIn}
 use Rattle.rows.specs.Condition.{Condition}
@@ -33,7 +33,7 @@ pub record Ready (g : Setting) (q : List ℕ) (arrays : List (List ℕ)) : Type 
   pub set-low : (j : ℕ) → j < g .sets → getD q (g .base + j) 0 < 2 ^ g .n
   pub unpacked : Unpacked (g .v) (g .n) (g .arrays) q arrays
   pub stack : cells (g .stack) ≡ stackIn (g .v) q
-  pub unnamed : Unnamed (g .v) (g .n) (cells (g .stack)) (g .unnamed)
+  pub barred : Barred (g .profile) (g .v) (g .n) (cells (g .stack)) (g .barred)
 
 -- array A and set S are given, and there are as many as a formula makes, from i and j on
 pub record Within (g : Setting) (F : Form) (A S i j : ℕ) : Type 0 where
@@ -44,14 +44,14 @@ pub record Within (g : Setting) (F : Form) (A S i j : ℕ) : Type 0 where
 
 -- what is said of a formula, and the numbers after it
 pub record Judged (g : Setting) (q : List ℕ) (F : Form) (A S i j : ℕ) (r : Told) : Type 0 where
-  pub holds : Is (r .holds) (Condition (g .v) (g .n) (given g q) F A S i j)
+  pub holds : Is (r .holds) (Condition (g .profile) (g .v) (g .n) (given g q) F A S i j)
   pub array : r .array ≡ i + arraysIn F
   pub set : r .set ≡ j + setsIn F
 
 -- and of two, over one array and two sets
 pub record JudgedBoth (g : Setting) (q : List ℕ) (a b : Form) (A S T i j : ℕ) (r : Pair) : Type 0 where
-  pub first : Is (r .first) (Condition (g .v) (g .n) (given g q) a A S i j)
-  pub second : Is (r .second) (Condition (g .v) (g .n) (given g q) b A T (i + arraysIn a) (j + setsIn a))
+  pub first : Is (r .first) (Condition (g .profile) (g .v) (g .n) (given g q) a A S i j)
+  pub second : Is (r .second) (Condition (g .profile) (g .v) (g .n) (given g q) b A T (i + arraysIn a) (j + setsIn a))
   pub array : r .array ≡ i + (arraysIn a + arraysIn b)
   pub set : r .set ≡ j + (setsIn a + setsIn b)
 

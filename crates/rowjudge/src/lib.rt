@@ -7,6 +7,7 @@ use cells::met;
 use cells::spread;
 use leaves::long;
 use leaves::wide;
+use logic::Profile;
 use packing::packed;
 use paths::is_short;
 use rows::Arrays;
@@ -26,16 +27,17 @@ ghost use Rattle.rows.specs.Bounds.{mostArrays};
 ghost use Rattle.arrays.specs.Unpacked.{valuesIn};
 ghost use Rattle.rowjudge.specs.Setting.{given, Ready, Within, Judged, JudgedBoth, WithinBoth};
 
-// The number of variables, of locations, of arrays and of sets, where the sets begin, the stack, packed, and the unnamed
-// locations.
+// The profile, the number of variables, of locations, of arrays and of sets, where the sets begin, the stack, packed, and the
+// locations at which two heaps may not meet.
 pub struct Setting {
+    pub profile: Profile,
     pub v: u64,
     pub n: u64,
     pub arrays: usize,
     pub sets: usize,
     pub base: usize,
     pub stack: u64,
-    pub unnamed: u64,
+    pub barred: u64,
 }
 
 // Whether a formula's last row holds, and the next array and set.
@@ -92,7 +94,7 @@ fn heap_at(q: &[u8], arrays: &Arrays, g: Setting, a: usize, s: usize) -> u64
 // Whether an atom over the variables x and y holds on array a and set s.
 fn atom(q: &[u8], arrays: &Arrays, g: Setting, op: u8, x: u64, y: u64, a: usize, s: usize) -> bool
     requires { ⌜ Ready g (now q) (now arrays) × (a < g .arrays) × (s < g .sets) × (1 ≤ op) × (op ≤ 4) × (x ≤ g .v) × (y ≤ g .v) ⌝ }
-    ensures { λ r. ⌜ Is r (Holds (g .v) (g .n) (atomOf op x y) (given g (now (q .entry)) .stack) (on (given g (now (q .entry)) .array a) (given g (now (q .entry)) .set s))) ⌝ }
+    ensures { λ r. ⌜ Is r (Holds (g .profile) (g .v) (g .n) (atomOf op x y) (given g (now (q .entry)) .stack) (on (given g (now (q .entry)) .array a) (given g (now (q .entry)) .set s))) ⌝ }
 {
     let w = heap_at(q, arrays, g, a, s);
     let b = cell(g.stack, x);
@@ -116,13 +118,13 @@ fn is_split(q: &[u8], g: Setting, s: usize, s1: usize, s2: usize) -> bool
     and(x & y == 0, x | y == m)
 }
 
-// APART.
+// APART, where the profile asks for it.
 fn is_apart(q: &[u8], arrays: &Arrays, g: Setting, a: usize, s1: usize, s2: usize) -> bool
     requires { ⌜ Ready g (now q) (now arrays) × (a < g .arrays) × (s1 < g .sets) × (s2 < g .sets) ⌝ }
-    ensures { λ r. ⌜ Is r (Apart (g .v) (given g (now (q .entry)) .stack) (given g (now (q .entry)) .array a) (given g (now (q .entry)) .set s1) (given g (now (q .entry)) .set s2)) ⌝ }
+    ensures { λ r. ⌜ Is r (Apart (g .profile) (g .v) (given g (now (q .entry)) .stack) (given g (now (q .entry)) .array a) (given g (now (q .entry)) .set s1) (given g (now (q .entry)) .set s2)) ⌝ }
 {
-    let x = met(g.unnamed, heap_at(q, arrays, g, a, s1));
-    let y = met(g.unnamed, heap_at(q, arrays, g, a, s2));
+    let x = met(g.barred, heap_at(q, arrays, g, a, s1));
+    let y = met(g.barred, heap_at(q, arrays, g, a, s2));
     x & y == 0
 }
 

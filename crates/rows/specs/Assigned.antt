@@ -6,6 +6,7 @@ use mathlib.Core.Logic.{_⊎_}
 use Prim.Native.Nat.{ℕ, zero, suc, _+_, _*_, _^_, _<_, _≤_}
 use lib.Dec.{ltb}
 use lib.ListN.{length, getD}
+use Rattle.logic.specs.declared.Profile.{Profile}
 use Rattle.logic.specs.declared.Answer.{Answer}
 use Rattle.logic.specs.Numbers.{not-encodable, assignment-length, assignment-value}
 use Rattle.logic.specs.Checks.{Checks, done, check, _then_, upto, Answers}
@@ -49,8 +50,8 @@ abbrev pub assignedIn : List ℕ → List ℕ → Assignment
 assignedIn s q = assigned (varsOf s) (locsOf s) (arrays (bookFormula s)) q
 
 -- "It satisfies the table when the last row holds."
-abbrev pub SatisfiesBook : List ℕ → List ℕ → Type 0
-SatisfiesBook s q = Satisfies (varsOf s) (assignedIn s q) (bookRows s)
+abbrev pub SatisfiesBook : Profile → List ℕ → List ℕ → Type 0
+SatisfiesBook π s q = Satisfies (varsOf s) (assignedIn s q) (bookRows π s)
 
 -- "then .. 19, 21, 22 (assignment)": "formula not encodable", then the assignment's own
 abbrev pub assignRest : List ℕ → List ℕ → Checks
@@ -62,5 +63,5 @@ abbrev pub assignChecks : List ℕ → List ℕ → Checks
 assignChecks s q = bookChecks s then assignRest s q
 
 -- what the judge of assignments gives back for the book s and the assignment q: "0: fits"; "1: doesn't fit"
-unfoldable pub Assigns : List ℕ → List ℕ → Answer → Type 0
-Assigns s q a = Answers (assignChecks s q) (Verdict (SatisfiesBook s q)) a
+unfoldable pub Assigns : Profile → List ℕ → List ℕ → Answer → Type 0
+Assigns π s q a = Answers (assignChecks s q) (Verdict (SatisfiesBook π s q)) a

@@ -1,7 +1,9 @@
 -- The most rows, bytes, arrays and sets of a table, and how many a node adds. Assumes nothing: these are definitions.
 use Prim.Native.Nat.{ℕ, _+_}
 use lib.Dec.{eqb, leb}
+use Rattle.logic.specs.declared.Profile.{Profile}
 use Rattle.logic.specs.Tests.{pick}
+use Rattle.rows.specs.Table.{apartRows}
 
 -- "The most is then 636 rows, 6,374 bytes"
 abbrev pub mostRows : ℕ
@@ -18,9 +20,9 @@ abbrev pub mostSets : ℕ
 mostSets = 63
 
 -- how many own rows a node of operator o has, over n locations
-unfoldable pub ownRows : ℕ → ℕ → ℕ
-ownRows n o =
-    pick (leb o 3) 3 (pick (leb o 4) (n + 1 + n) (pick (eqb o 7) 2 (pick (leb o 8) 1 (pick (leb o 9) 5 7))))
+unfoldable pub ownRows : Profile → ℕ → ℕ → ℕ
+ownRows π n o =
+    pick (leb o 3) 3 (pick (leb o 4) (n + 1 + n) (pick (eqb o 7) 2 (pick (leb o 8) 1 (pick (leb o 9) (3 + apartRows π) (5 + apartRows π)))))
 
 -- how many arrays and sets it makes
 unfoldable pub ownArrays : ℕ → ℕ

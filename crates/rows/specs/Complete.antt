@@ -4,7 +4,8 @@ use mathlib.Core.Path.{_≡_, sym, _∙_}
 use mathlib.Core.Logic.{inl, inr, ⊎-elim}
 use Prim.Native.Nat.{ℕ, _+_, _<_}
 use native.Mathlib.Omega.{arith}
-use Rattle.logic.specs.Heap.{Map, Heap, StronglyDisjoint, Parts}
+use Rattle.logic.specs.declared.Profile.{Profile}
+use Rattle.logic.specs.Heap.{Map, Heap, Disjoint, Parts}
 use Rattle.logic.specs.Tests.{allocated}
 use Rattle.logic.specs.Agree.{first-heap, second-heap}
 use Rattle.logic.specs.Formula.{Form}
@@ -18,31 +19,31 @@ use Rattle.rows.specs.PartSets.{domain-on, domain-of, not-allocated, par
 use Rattle.rows.specs.Symbols.{Agree, agree-less, agree-refl, agree-trans, condition-kept, withSet, withArray, new-set, new-array}
 use Rattle.rows.specs.Sound.{flat}
 
-module _ (v n : ℕ) where
+module _ (π : Profile) (v n : ℕ) where
   -- an assignment that agrees with ν so far and meets the condition
   pub record Found (F : Form) (ν : Assignment) (A S i j : ℕ) : Type 0 where
     pub is : Assignment
     pub in-range : ValuesInRange v n is
     pub agrees : Agree i j ν is
-    pub holds : Condition v n is F A S i j
+    pub holds : Condition π v n is F A S i j
 
   -- what is to be shown of a formula
   Complete : Form → Type 0
-  Complete F = (ν : Assignment) (A S i j : ℕ) → ValuesInRange v n ν → A < i → S < j → Holds v n F (ν .stack) (on (ν .array A) (ν .set S)) → Found F ν A S i j
+  Complete F = (ν : Assignment) (A S i j : ℕ) → ValuesInRange v n ν → A < i → S < j → Holds π v n F (ν .stack) (on (ν .array A) (ν .set S)) → Found F ν A S i j
 
   -- two conditions, of which the second one's symbols are new after the first one's
   record FoundBoth (a b : Form) (ν : Assignment) (A S T i j : ℕ) : Type 0 where
     is : Assignment
     in-range : ValuesInRange v n is
     agrees : Agree i j ν is
-    first : Condition v n is a A S i j
-    second : Condition v n is b A T (i + arraysIn a) (j + setsIn a)
+    first : Condition π v n is a A S i j
+    second : Condition π v n is b A T (i + arraysIn a) (j + setsIn a)
 
-  truth-kept : (F : Form) (ν μ : Assignment) (A S i j : ℕ) → A < i → S < j → Agree i j ν μ → Holds v n F (ν .stack) (on (ν .array A) (ν .set S)) → Holds v n F (μ .stack) (on (μ .array A) (μ .set S))
+  truth-kept : (F : Form) (ν μ : Assignment) (A S i j : ℕ) → A < i → S < j → Agree i j ν μ → Holds π v n F (ν .stack) (on (ν .array A) (ν .set S)) → Holds π v n F (μ .stack) (on (μ .array A) (μ .set S))
   truth-kept F ν μ A S i j a b g q = rw (← (g .stack), ← (g .array A a), ← (g .set S b)) q
 
   both : (a b : Form) → Complete a → Complete b → (ν : Assignment) (A S T i j : ℕ) → ValuesInRange v n ν → A < i → S < j → T < j
-      → Holds v n a (ν .stack) (on (ν .array A) (ν .set S)) → Holds v n b (ν .stack) (on (ν .array A) (ν .set T)) → FoundBoth a b ν A S T i j
+      → Holds π v n a (ν .stack) (on (ν .array A) (ν .set S)) → Holds π v n b (ν .stack) (on (ν .array A) (ν .set T)) → FoundBoth a b ν A S T i j
   unfolding Complete
   both a b ca cb ν A S T i j k lA lS lT ha hb =
       let f = ca ν A S i j k lA lS ha in
@@ -51,7 +52,7 @@ module _ (v n : ℕ) where
         is = g .is;
         in-range = g .in-range;
         agrees = agree-trans (f .agrees) (agree-less (g .agrees) i j (omega arith) (omega arith));
-        first = condition-kept v n a (f .is) (g .is) A S i j lA lS (g .agrees) (f .holds);
+        first = condition-kept π v n a (f .is) (g .is) A S i j lA lS (g .agrees) (f .holds);
         second = g .holds;
       }
 
@@ -65,10 +66,10 @@ module _ (v n : ℕ) where
   unfolding Complete Condition Holds
   complete-disj a b ca cb ν A S i j k lA lS q = ⊎-elim left right q
     where
-      left : Holds v n a (ν .stack) (on (ν .array A) (ν .set S)) → Found (disj a b) ν A S i j
+      left : Holds π v n a (ν .stack) (on (ν .array A) (ν .set S)) → Found (disj a b) ν A S i j
       left y = let f = ca ν A S i j k lA lS y in record { is = f .is; in-range = f .in-range; agrees = f .agrees; holds = inl (f .holds) }
 
-      right : Holds v n b (ν .stack) (on (ν .array A) (ν .set S)) → Found (disj a b) ν A S i j
+      right : Holds π v n b (ν .stack) (on (ν .array A) (ν .set S)) → Found (disj a b) ν A S i j
       right y =
           let f = cb ν A S (i + arraysIn a) (j + setsIn a) k (omega arith) (omega arith) y in
           record { is = f .is; in-range = f .in-range; agrees = agree-less (f .agrees) i j (omega arith) (omega arith); holds = inr (f .holds) }
@@ -81,7 +82,7 @@ module _ (v n : ℕ) where
         is = f .is;
         in-range = f .in-range;
         agrees = f .agrees;
-        holds = (f .holds, λ y. q .1 (rw (f .agrees .stack, f .agrees .array A lA, f .agrees .set S lS) (flat v n (f .is) (f .in-range) b A S (i + arraysIn a) (j + setsIn a) c .0 y)));
+        holds = (f .holds, λ y. q .1 (rw (f .agrees .stack, f .agrees .array A lA, f .agrees .set S lS) (flat π v n (f .is) (f .in-range) b A S (i + arraysIn a) (j + setsIn a) c .0 y)));
       }
 
   -- ---- operator 9: S1 and S2 are where the two parts are allocated
@@ -111,8 +112,8 @@ module _ (v n : ℕ) where
       )
 
   module _ (a b : Form) (ca : Complete a) (cb : Complete b) (ν κ : Assignment) (A S i j : ℕ) (lA : A < i) (lS : S < j) (g r : Map)
-      (pt : Parts g r (on (ν .array A) (ν .set S))) (d : StronglyDisjoint v (ν .stack) g r) (t : Two ν κ j (allocated g) (allocated r)) where
-    sep-trees : Holds v n a (ν .stack) g → Holds v n b (ν .stack) r → FoundBoth a b κ A j (j + 1) i (j + 2)
+      (pt : Parts g r (on (ν .array A) (ν .set S))) (d : Disjoint π v (ν .stack) g r) (t : Two ν κ j (allocated g) (allocated r)) where
+    sep-trees : Holds π v n a (ν .stack) g → Holds π v n b (ν .stack) r → FoundBoth a b κ A j (j + 1) i (j + 2)
     sep-trees ha hb =
         both a b ca cb κ A j (j + 1) i (j + 2) (t .in-range) lA (omega arith) (omega arith)
         (rw (t .stack, t .array A, t .first, first-part (ν .array A) (ν .set S) g r pt) ha)
@@ -133,7 +134,7 @@ module _ (v n : ℕ) where
                   (parts-splits g r (on (ν .array A) (ν .set S)) (ν .set S) (allocated g) (allocated r) pt (domain-on (ν .array A) (ν .set S)) (domain-of g) (domain-of r)),
             ),
             rw (← (y .stack), ← (y .array A lA), ← (y .set j (omega arith)), ← (y .set (j + 1) (omega arith)), t .stack, t .array A, t .first, t .second)
-                (parts-apart (ν .array A) (ν .set S) g r pt v (ν .stack) d),
+                (parts-apart (ν .array A) (ν .set S) g r pt π v (ν .stack) d),
           );
         }
 
@@ -141,7 +142,7 @@ module _ (v n : ℕ) where
   unfolding Complete
   complete-sep a b ca cb ν A S i j k lA lS q = go (unfold Holds in q)
     where
-      go : (g : Map) × (r : Map) × Parts g r (on (ν .array A) (ν .set S)) × StronglyDisjoint v (ν .stack) g r × Holds v n a (ν .stack) g × Holds v n b (ν .stack) r → Found (sep a b) ν A S i j
+      go : (g : Map) × (r : Map) × Parts g r (on (ν .array A) (ν .set S)) × Disjoint π v (ν .stack) g r × Holds π v n a (ν .stack) g × Holds π v n b (ν .stack) r → Found (sep a b) ν A S i j
       go y =
           let kh = on-heap v n ν A S k in
           let w = two ν j (y .0) (y .1) k (first-heap n (y .0) (y .1) (on (ν .array A) (ν .set S)) (y .2) kh) (second-heap n (y .0) (y .1) (on (ν .array A) (ν .set S)) (y .2) kh) in
@@ -176,9 +177,9 @@ module _ (v n : ℕ) where
       )
 
   module _ (a b : Form) (ca : Complete a) (cb : Complete b) (ν κ : Assignment) (A S i j : ℕ) (lA : A < i) (lS : S < j) (g u : Map)
-      (pt : Parts g (on (ν .array A) (ν .set S)) u) (d : StronglyDisjoint v (ν .stack) g (on (ν .array A) (ν .set S)))
+      (pt : Parts g (on (ν .array A) (ν .set S)) u) (d : Disjoint π v (ν .stack) g (on (ν .array A) (ν .set S)))
       (t : Three ν κ i j (values u) (allocated g) (allocated u)) where
-    sept-trees : Holds v n a (ν .stack) g → Holds v n b (ν .stack) u → FoundBoth a b κ i j (j + 1) (i + 1) (j + 2)
+    sept-trees : Holds π v n a (ν .stack) g → Holds π v n b (ν .stack) u → FoundBoth a b κ i j (j + 1) (i + 1) (j + 2)
     sept-trees ha hb =
         both a b ca cb κ i j (j + 1) (i + 1) (j + 2) (t .in-range) (omega arith) (omega arith) (omega arith)
         (rw (t .stack, t .array, t .first, added-part (ν .array A) (ν .set S) g u pt) ha)
@@ -200,7 +201,7 @@ module _ (v n : ℕ) where
                     (parts-splits g (on (ν .array A) (ν .set S)) u (allocated u) (allocated g) (ν .set S) pt (domain-of u) (domain-of g) (domain-on (ν .array A) (ν .set S))),
               ),
               rw (← (y .stack), ← (y .array i (omega arith)), ← (y .set j (omega arith)), ← (y .set S (omega arith)), t .stack, t .array, t .first, t .old S lS)
-                  (added-apart (ν .array A) (ν .set S) g u pt v (ν .stack) d),
+                  (added-apart (ν .array A) (ν .set S) g u pt π v (ν .stack) d),
             ),
             rw (← (y .array A (omega arith)), ← (y .array i (omega arith)), ← (y .set S (omega arith)), t .old-array A lA, t .array, t .old S lS)
                 (added-same (ν .array A) (ν .set S) g u pt),
@@ -211,7 +212,7 @@ module _ (v n : ℕ) where
   unfolding Complete
   complete-sept a b ca cb ν A S i j k lA lS q = go (unfold Holds in q)
     where
-      go : (g : Map) × (u : Map) × Heap n g × Parts g (on (ν .array A) (ν .set S)) u × StronglyDisjoint v (ν .stack) g (on (ν .array A) (ν .set S)) × Holds v n a (ν .stack) g × Holds v n b (ν .stack) u → Found (sept a b) ν A S i j
+      go : (g : Map) × (u : Map) × Heap n g × Parts g (on (ν .array A) (ν .set S)) u × Disjoint π v (ν .stack) g (on (ν .array A) (ν .set S)) × Holds π v n a (ν .stack) g × Holds π v n b (ν .stack) u → Found (sept a b) ν A S i j
       go y =
           let w = three ν i j (y .0) (y .1) k (y .2) (whole-heap (ν .array A) (ν .set S) (y .0) (y .1) (y .3) n (y .2) (on-heap v n ν A S k)) in
           sept-found a b ca cb ν (w .0) A S i j lA lS (y .0) (y .1) (y .3) (y .4) (w .1)
@@ -220,7 +221,7 @@ module _ (v n : ℕ) where
   -- a formula without operators 9 and 10 needs no new symbol
   complete-flat : (F : Form) → Flat F → Complete F
   unfolding Complete
-  complete-flat F c ν A S i j k lA lS q = record { is = ν; in-range = k; agrees = agree-refl i j ν; holds = flat v n ν k F A S i j c .1 q }
+  complete-flat F c ν A S i j k lA lS q = record { is = ν; in-range = k; agrees = agree-refl i j ν; holds = flat π v n ν k F A S i j c .1 q }
 
   complete-of : (F : Form) → Encodable F → Complete F
   unfolding Encodable
@@ -235,6 +236,6 @@ module _ (v n : ℕ) where
   complete-of (sep a b) c = complete-sep a b (complete-of a (c .0)) (complete-of b (c .1))
   complete-of (sept a b) c = complete-sept a b (complete-of a (c .0)) (complete-of b (c .1))
 
-  pub complete : (F : Form) → Encodable F → (ν : Assignment) (A S i j : ℕ) → ValuesInRange v n ν → A < i → S < j → Holds v n F (ν .stack) (on (ν .array A) (ν .set S)) → Found F ν A S i j
+  pub complete : (F : Form) → Encodable F → (ν : Assignment) (A S i j : ℕ) → ValuesInRange v n ν → A < i → S < j → Holds π v n F (ν .stack) (on (ν .array A) (ν .set S)) → Found F ν A S i j
   unfolding Complete
   complete F c = complete-of F c

@@ -7,6 +7,8 @@ use native.Mathlib.Nat.{not-suc-le-zero, eq-or-lt-of-le, le-of-suc-le-suc}
 use native.Mathlib.Omega.{arith}
 use lib.ListN.{length, getD, length-append}
 use borrow.Author.Tests.{eq-eqb, ne-eqb}
+use Rattle.logic.specs.declared.Profile.{Profile}
+use Rattle.logic.specs.declared.Profile.the-variants.{Strong, Ordinary}
 use Rattle.logic.specs.Formula.{Form}
 use Rattle.logic.specs.Formula.Form.{same, diff, pts, ls, conj, disj, but, neg, sep, sept}
 use Rattle.logic.specs.Paths.{NoLongPath}
@@ -15,8 +17,8 @@ use Rattle.rows.specs.Assignment.{Assignment, modelHeap}
 use Rattle.rows.specs.Row.{Row}
 use Rattle.rows.specs.Row.Row.{EQ, NE, EMPTY, ONE, AT, CHAIN, AND, OR, NOT, SPLIT, APART, SAME, LONG}
 use Rattle.rows.specs.Meaning.{Means, HoldsBefore, RowHolds, Satisfies, Links, Splits, Apart}
-use Rattle.rows.specs.Table.{arraysIn, setsIn, twoSets, arrayAndSets, after, chains, ors, soFar, pairRows, also, sepRows, rowsIn, rowsOf, start, table}
-use Rattle.rows.specs.TableLaws.{chains-long, chains-at, ors-long, ors-at, rows-some, rows-long, trees-long, table-long, Here, here-first, here-second, here-at}
+use Rattle.rows.specs.Table.{arraysIn, setsIn, twoSets, arrayAndSets, after, chains, ors, soFar, pairRows, also, alsoApart, apartRows, sepRows, rowsIn, rowsOf, start, table}
+use Rattle.rows.specs.TableLaws.{chains-long, chains-at, ors-long, ors-at, apart-long, rows-some, rows-long, trees-long, table-long, Here, here-first, here-second, here-at}
 use Rattle.rows.specs.Condition.{Condition}
 
 iff-and : {P Q R T : Type 0} → P ↔ Q → R ↔ T → (P × R) ↔ (Q × T)
@@ -34,7 +36,7 @@ iff-trans f g = (λ p. g .0 (f .0 p), λ r. f .1 (g .1 r))
 iff-of : {P Q : Type 0} → P ≡ Q → P ↔ Q
 iff-of e = (λ p. subst (λ (X : Type 0). X) e p, λ q. subst (λ (X : Type 0). X) (sym e) q)
 
-module _ (v n : ℕ) (ν : Assignment) (rs : List Row) where
+module _ (π : Profile) (v n : ℕ) (ν : Assignment) (rs : List Row) where
   -- a row keeps what it says, whatever comes after it
   row-kept : (d k : ℕ) → k < d → HoldsBefore v ν rs d k ≡ RowHolds v ν rs k
   row-kept zero k l = absurd (not-suc-le-zero l)
@@ -72,7 +74,7 @@ module _ (v n : ℕ) (ν : Assignment) (rs : List Row) where
 
   -- what is to be shown of a formula
   Says : Form → Type 0
-  Says F = (A S : ℕ) (s : Next) → Here rs (s .row) (rowsOf n F A S s) → RowHolds v ν rs (after n F s .row - 1) ↔ Condition v n ν F A S (s .array) (s .set)
+  Says F = (A S : ℕ) (s : Next) → Here rs (s .row) (rowsOf π n F A S s) → RowHolds v ν rs (after π n F s .row - 1) ↔ Condition π v n ν F A S (s .array) (s .set)
 
   -- the result after m ORs
   module _ (A S x y r : ℕ) (hc : Here rs r (chains A S x y (n + 1))) (ho : Here rs (r + (n + 1)) (ors r (r + (n + 1)) n)) where
@@ -127,63 +129,63 @@ module _ (v n : ℕ) (ν : Assignment) (rs : List Row) where
 
   -- two trees over array A
   record Both (a b : Form) (A S T : ℕ) (s : Next) : Type 0 where
-    first : RowHolds v ν rs (after n a s .row - 1) ↔ Condition v n ν a A S (s .array) (s .set)
-    second : RowHolds v ν rs (after n b (after n a s) .row - 1) ↔ Condition v n ν b A T (s .array + arraysIn a) (s .set + setsIn a)
+    first : RowHolds v ν rs (after π n a s .row - 1) ↔ Condition π v n ν a A S (s .array) (s .set)
+    second : RowHolds v ν rs (after π n b (after π n a s) .row - 1) ↔ Condition π v n ν b A T (s .array + arraysIn a) (s .set + setsIn a)
 
-  both : (a b : Form) → Says a → Says b → (A S T : ℕ) (s : Next) → Here rs (s .row) (rowsOf n a A S s ++ rowsOf n b A T (after n a s)) → Both a b A S T s
+  both : (a b : Form) → Says a → Says b → (A S T : ℕ) (s : Next) → Here rs (s .row) (rowsOf π n a A S s ++ rowsOf π n b A T (after π n a s)) → Both a b A S T s
   unfolding Says
   both a b sa sb A S T s h =
-      let xs = rowsOf n a A S s in
-      let ys = rowsOf n b A T (after n a s) in
+      let xs = rowsOf π n a A S s in
+      let ys = rowsOf π n b A T (after π n a s) in
       record {
         first = sa A S s (here-first rs (s .row) xs ys h);
-        second = sb A T (after n a s) (here-second rs (s .row) xs ys (s .row + rowsIn n a) h (omega (arith, rows-long n a A S s)));
+        second = sb A T (after π n a s) (here-second rs (s .row) xs ys (s .row + rowsIn π n a) h (omega (arith, rows-long π n a A S s)));
       }
 
   -- where the last rows of the two trees stand, below a row behind them
-  module _ (a b : Form) (A S T : ℕ) (s : Next) (k : ℕ) (l : after n b (after n a s) .row ≤ k) where
-    first-below : after n a s .row - 1 < k
-    first-below = omega (arith, rows-some n a)
+  module _ (a b : Form) (A S T : ℕ) (s : Next) (k : ℕ) (l : after π n b (after π n a s) .row ≤ k) where
+    first-below : after π n a s .row - 1 < k
+    first-below = omega (arith, rows-some π n a)
 
-    second-below : after n b (after n a s) .row - 1 < k
-    second-below = omega (arith, rows-some n b)
+    second-below : after π n b (after π n a s) .row - 1 < k
+    second-below = omega (arith, rows-some π n b)
 
   says-conj : (a b : Form) → Says a → Says b → Says (conj a b)
   unfolding Says rowsOf rowsIn Condition
   says-conj a b sa sb A S s h =
-      let t = after n a s in
-      let u = after n b t in
-      let xs = rowsOf n a A S s ++ rowsOf n b A S t in
+      let t = after π n a s in
+      let u = after π n b t in
+      let xs = rowsOf π n a A S s ++ rowsOf π n b A S t in
       let own = AND (t .row - 1) (u .row - 1) ∷ [] in
-      let k = s .row + (rowsIn n a + rowsIn n b + 1) - 1 in
+      let k = s .row + (rowsIn π n a + rowsIn π n b + 1) - 1 in
       let q = both a b sa sb A S S s (here-first rs (s .row) xs own h) in
-      let ho = here-second rs (s .row) xs own (u .row) h (omega (arith, trees-long n a b A S S s)) in
+      let ho = here-second rs (s .row) xs own (u .row) h (omega (arith, trees-long π n a b A S S s)) in
       and-row k (t .row - 1) (u .row - 1) (here-at rs (u .row) own ho 0 k (omega arith) (omega arith))
       (first-below a b A S S s k (omega arith)) (second-below a b A S S s k (omega arith)) (q .first) (q .second)
 
   says-disj : (a b : Form) → Says a → Says b → Says (disj a b)
   unfolding Says rowsOf rowsIn Condition
   says-disj a b sa sb A S s h =
-      let t = after n a s in
-      let u = after n b t in
-      let xs = rowsOf n a A S s ++ rowsOf n b A S t in
+      let t = after π n a s in
+      let u = after π n b t in
+      let xs = rowsOf π n a A S s ++ rowsOf π n b A S t in
       let own = OR (t .row - 1) (u .row - 1) ∷ [] in
-      let k = s .row + (rowsIn n a + rowsIn n b + 1) - 1 in
+      let k = s .row + (rowsIn π n a + rowsIn π n b + 1) - 1 in
       let q = both a b sa sb A S S s (here-first rs (s .row) xs own h) in
-      let ho = here-second rs (s .row) xs own (u .row) h (omega (arith, trees-long n a b A S S s)) in
+      let ho = here-second rs (s .row) xs own (u .row) h (omega (arith, trees-long π n a b A S S s)) in
       or-row k (t .row - 1) (u .row - 1) (here-at rs (u .row) own ho 0 k (omega arith) (omega arith))
       (first-below a b A S S s k (omega arith)) (second-below a b A S S s k (omega arith)) (q .first) (q .second)
 
   says-but : (a b : Form) → Says a → Says b → Says (but a b)
   unfolding Says rowsOf rowsIn Condition
   says-but a b sa sb A S s h =
-      let t = after n a s in
-      let u = after n b t in
-      let xs = rowsOf n a A S s ++ rowsOf n b A S t in
+      let t = after π n a s in
+      let u = after π n b t in
+      let xs = rowsOf π n a A S s ++ rowsOf π n b A S t in
       let own = NOT (u .row - 1) ∷ AND (t .row - 1) (u .row) ∷ [] in
-      let k = s .row + (rowsIn n a + rowsIn n b + 2) - 1 in
+      let k = s .row + (rowsIn π n a + rowsIn π n b + 2) - 1 in
       let q = both a b sa sb A S S s (here-first rs (s .row) xs own h) in
-      let ho = here-second rs (s .row) xs own (u .row) h (omega (arith, trees-long n a b A S S s)) in
+      let ho = here-second rs (s .row) xs own (u .row) h (omega (arith, trees-long π n a b A S S s)) in
       let no = not-row (u .row) (u .row - 1) (here-at rs (u .row) own ho 0 (u .row) (omega arith) (omega arith)) (second-below a b A S S s (u .row) (omega arith)) (q .second) in
       and-row k (t .row - 1) (u .row) (here-at rs (u .row) own ho 1 k (omega arith) (omega arith))
       (first-below a b A S S s k (omega arith)) (omega arith) (q .first) no
@@ -191,12 +193,12 @@ module _ (v n : ℕ) (ν : Assignment) (rs : List Row) where
   says-neg : (a : Form) → Says a → Says (neg a)
   unfolding Says rowsOf rowsIn Condition
   says-neg a sa A S s h =
-      let t = after n a s in
-      let xs = rowsOf n a A S s in
+      let t = after π n a s in
+      let xs = rowsOf π n a A S s in
       let own = NOT (t .row - 1) ∷ [] in
-      let k = s .row + (rowsIn n a + 1) - 1 in
-      let ho = here-second rs (s .row) xs own (t .row) h (omega (arith, rows-long n a A S s)) in
-      not-row k (t .row - 1) (here-at rs (t .row) own ho 0 k (omega arith) (omega arith)) (omega (arith, rows-some n a)) (sa A S s (here-first rs (s .row) xs own h))
+      let k = s .row + (rowsIn π n a + 1) - 1 in
+      let ho = here-second rs (s .row) xs own (t .row) h (omega (arith, rows-long π n a A S s)) in
+      not-row k (t .row - 1) (here-at rs (t .row) own ho 0 k (omega arith) (omega arith)) (omega (arith, rows-some π n a)) (sa A S s (here-first rs (s .row) xs own h))
 
   -- a row by another name of its number
   row-at : (j k : ℕ) {P : Type 0} → j ≡ k → RowHolds v ν rs j ↔ P → RowHolds v ν rs k ↔ P
@@ -208,53 +210,59 @@ module _ (v n : ℕ) (ν : Assignment) (rs : List Row) where
       and-row (r + 2) r (r + 1) (here-at rs (r + 1) (also r x) h 1 (r + 2) (omega arith) (omega arith)) (omega arith) (omega arith) f
       (iff-trans (iff-of (row-is (r + 1) x (here-at rs (r + 1) (also r x) h 0 (r + 1) (omega arith) (omega arith)))) g)
 
-  -- the children, SPLIT, and APART: row m is the AND of the children
-  split-rows : (a b : Form) (A S T : ℕ) (s : Next) (x y z B w u m : ℕ) → Both a b A S T s → m ≡ after n b (after n a s) .row
-      → Here rs m ((AND (after n a s .row - 1) (m - 1) ∷ also m (SPLIT x y z)) ++ also (m + 2) (APART B w u))
-      → RowHolds v ν rs (m + 4) ↔ (((Condition v n ν a A S (s .array) (s .set) × Condition v n ν b A T (s .array + arraysIn a) (s .set + setsIn a)) × Splits (ν .set x) (ν .set y) (ν .set z)) × Apart v (ν .stack) (ν .array B) (ν .set w) (ν .set u))
+  -- APART, where the profile asks it
+  apart-row : (ρ : Profile) (r A S T : ℕ) {P : Type 0} → Here rs (r + 1) (alsoApart ρ r (APART A S T)) → RowHolds v ν rs r ↔ P → RowHolds v ν rs (r + apartRows ρ) ↔ (P × Apart ρ v (ν .stack) (ν .array A) (ν .set S) (ν .set T))
+  unfolding Means
+  apart-row Strong r A S T h f = also-row r (APART A S T) h f (λ q. q, λ q. q)
+  apart-row Ordinary r A S T h f = row-at r (r + 0) (omega arith) (iff-trans f (λ q. (q, λ ℓ x y. tt), λ q. q .0))
+
+  -- the children, SPLIT, and APART where the profile asks it: row m is the AND of the children
+  split-rows : (a b : Form) (A S T : ℕ) (s : Next) (x y z B w u m : ℕ) → Both a b A S T s → m ≡ after π n b (after π n a s) .row
+      → Here rs m ((AND (after π n a s .row - 1) (m - 1) ∷ also m (SPLIT x y z)) ++ alsoApart π (m + 2) (APART B w u))
+      → RowHolds v ν rs (m + 2 + apartRows π) ↔ (((Condition π v n ν a A S (s .array) (s .set) × Condition π v n ν b A T (s .array + arraysIn a) (s .set + setsIn a)) × Splits (ν .set x) (ν .set y) (ν .set z)) × Apart π v (ν .stack) (ν .array B) (ν .set w) (ν .set u))
   unfolding Means
   split-rows a b A S T s x y z B w u m q e h =
-      let t = after n a s in
+      let t = after π n a s in
       let own = AND (t .row - 1) (m - 1) ∷ also m (SPLIT x y z) in
-      let ho = here-first rs m own (also (m + 2) (APART B w u)) h in
+      let ho = here-first rs m own (alsoApart π (m + 2) (APART B w u)) h in
       let trees = and-row m (t .row - 1) (m - 1) (here-at rs m own ho 0 m (omega arith) (omega arith))
-      (first-below a b A S T s m (omega arith)) (omega (arith, rows-some n b)) (q .first) (subst (λ (k : ℕ). RowHolds v ν rs (k - 1) ↔ Condition v n ν b A T (s .array + arraysIn a) (s .set + setsIn a)) (sym e) (q .second)) in
+      (first-below a b A S T s m (omega arith)) (omega (arith, rows-some π n b)) (q .first) (subst (λ (k : ℕ). RowHolds v ν rs (k - 1) ↔ Condition π v n ν b A T (s .array + arraysIn a) (s .set + setsIn a)) (sym e) (q .second)) in
       let hs = here-second rs m (AND (t .row - 1) (m - 1) ∷ []) (also m (SPLIT x y z)) (m + 1) ho refl in
-      let ha = here-second rs m own (also (m + 2) (APART B w u)) (m + 2 + 1) h (omega arith) in
-      row-at (m + 2 + 2) (m + 4) (omega arith) (also-row (m + 2) (APART B w u) ha (also-row m (SPLIT x y z) hs trees (λ q. q, λ q. q)) (λ q. q, λ q. q))
+      let ha = here-second rs m own (alsoApart π (m + 2) (APART B w u)) (m + 2 + 1) h (omega arith) in
+      apart-row π (m + 2) B w u ha (also-row m (SPLIT x y z) hs trees (λ q. q, λ q. q))
 
   says-sep : (a b : Form) → Says a → Says b → Says (sep a b)
   unfolding Says rowsOf rowsIn Condition
   says-sep a b sa sb A S s h =
       let s₁ = twoSets s in
-      let t = after n a s₁ in
-      let m = after n b t .row in
-      let xs = rowsOf n a A (s .set) s₁ ++ rowsOf n b A (s .set + 1) t in
-      let own = sepRows A S (s .set) (s .set + 1) (t .row) m in
+      let t = after π n a s₁ in
+      let m = after π n b t .row in
+      let xs = rowsOf π n a A (s .set) s₁ ++ rowsOf π n b A (s .set + 1) t in
+      let own = sepRows π A S (s .set) (s .set + 1) (t .row) m in
       let q = both a b sa sb A (s .set) (s .set + 1) s₁ (here-first rs (s .row) xs own h) in
-      let ho = here-second rs (s .row) xs own m h (omega (arith, trees-long n a b A (s .set) (s .set + 1) s₁)) in
-      let e : m + 4 ≡ s .row + (rowsIn n a + rowsIn n b + 5) - 1 = omega arith in
-      row-at (m + 4) _ e (split-rows a b A (s .set) (s .set + 1) s₁ _ _ _ _ _ _ m q refl ho)
+      let ho = here-second rs (s .row) xs own m h (omega (arith, trees-long π n a b A (s .set) (s .set + 1) s₁)) in
+      let e : m + 2 + apartRows π ≡ s .row + (rowsIn π n a + rowsIn π n b + (3 + apartRows π)) - 1 = omega arith in
+      row-at (m + 2 + apartRows π) _ e (split-rows a b A (s .set) (s .set + 1) s₁ S (s .set) (s .set + 1) A (s .set) (s .set + 1) m q refl ho)
 
   says-sept : (a b : Form) → Says a → Says b → Says (sept a b)
   unfolding Says rowsOf rowsIn Condition Means
   says-sept a b sa sb A S s h =
       let s₁ = arrayAndSets s in
       let B = s .array in
-      let t = after n a s₁ in
-      let m = after n b t .row in
-      let xs = rowsOf n a B (s .set) s₁ ++ rowsOf n b B (s .set + 1) t in
+      let t = after π n a s₁ in
+      let m = after π n b t .row in
+      let xs = rowsOf π n a B (s .set) s₁ ++ rowsOf π n b B (s .set + 1) t in
       let x = SPLIT (s .set + 1) (s .set) S in
       let y = APART B (s .set) S in
-      let front = (AND (t .row - 1) (m - 1) ∷ also m x) ++ also (m + 2) y in
-      let last = also (m + 4) (SAME A B S) in
+      let front = (AND (t .row - 1) (m - 1) ∷ also m x) ++ alsoApart π (m + 2) y in
+      let last = also (m + 2 + apartRows π) (SAME A B S) in
       let q = both a b sa sb B (s .set) (s .set + 1) s₁ (here-first rs (s .row) xs (front ++ last) h) in
-      let ho = here-second rs (s .row) xs (front ++ last) m h (omega (arith, trees-long n a b B (s .set) (s .set + 1) s₁)) in
-      let long : length front ≡ 5 = omega (arith, length-append (AND (t .row - 1) (m - 1) ∷ also m x) (also (m + 2) y)) in
-      let e : m + 4 + 2 ≡ s .row + (rowsIn n a + rowsIn n b + 7) - 1 = omega arith in
-      row-at (m + 4 + 2) _ e
-      (also-row (m + 4) (SAME A B S) (here-second rs m front last (m + 4 + 1) ho (omega arith))
-      (split-rows a b B (s .set) (s .set + 1) s₁ _ _ _ _ _ _ m q refl (here-first rs m front last ho)) (λ q. q, λ q. q))
+      let ho = here-second rs (s .row) xs (front ++ last) m h (omega (arith, trees-long π n a b B (s .set) (s .set + 1) s₁)) in
+      let long : length front ≡ 3 + apartRows π = omega (arith, length-append (AND (t .row - 1) (m - 1) ∷ also m x) (alsoApart π (m + 2) y), apart-long π (m + 2) y) in
+      let e : m + 2 + apartRows π + 2 ≡ s .row + (rowsIn π n a + rowsIn π n b + (5 + apartRows π)) - 1 = omega arith in
+      row-at (m + 2 + apartRows π + 2) _ e
+      (also-row (m + 2 + apartRows π) (SAME A B S) (here-second rs m front last (m + 2 + apartRows π + 1) ho (omega arith))
+      (split-rows a b B (s .set) (s .set + 1) s₁ (s .set + 1) (s .set) S B (s .set) S m q refl (here-first rs m front last ho)) (λ q. q, λ q. q))
 
   -- the last row of each formula's rows, wherever they stand in the table
   says : (F : Form) → Says F
@@ -271,16 +279,16 @@ module _ (v n : ℕ) (ν : Assignment) (rs : List Row) where
   says (sept a b) A S s h = says-sept a b (says a) (says b) A S s h
 
 -- "It satisfies the table when the last row holds.": the formula's condition, and LONG
-pub satisfies-condition : (v n p : ℕ) (ν : Assignment) (F : Form) → Satisfies v ν (table n p F) ↔ (Condition v n ν F 0 0 1 1 × NoLongPath p (modelHeap ν))
+pub satisfies-condition : (π : Profile) (v n p : ℕ) (ν : Assignment) (F : Form) → Satisfies v ν (table π n p F) ↔ (Condition π v n ν F 0 0 1 1 × NoLongPath p (modelHeap ν))
 unfolding Says Means
-satisfies-condition v n p ν F =
-    let rs = table n p F in
-    let r = rowsIn n F - 1 in
-    let xs = rowsOf n F 0 0 start in
+satisfies-condition π v n p ν F =
+    let rs = table π n p F in
+    let r = rowsIn π n F - 1 in
+    let xs = rowsOf π n F 0 0 start in
     let x = LONG 0 0 p in
     let last = also r x in
     let h : Here rs 0 (xs ++ last) = λ i l. ap (λ (k : ℕ). getD rs k (EQ 0 0)) (omega arith) in
-    let e : r + 2 ≡ length rs - 1 = omega (arith, table-long n p F, rows-some n F) in
-    subst (λ (k : ℕ). RowHolds v ν rs k ↔ (Condition v n ν F 0 0 1 1 × NoLongPath p (modelHeap ν))) e
-    (also-row v n ν rs r x (here-second rs 0 xs last (r + 1) h (omega (arith, rows-long n F 0 0 start, rows-some n F)))
-    (row-at v n ν rs (after n F start .row - 1) r (omega arith) (says v n ν rs F 0 0 start (here-first rs 0 xs last h))) (λ q. q, λ q. q))
+    let e : r + 2 ≡ length rs - 1 = omega (arith, table-long π n p F, rows-some π n F) in
+    subst (λ (k : ℕ). RowHolds v ν rs k ↔ (Condition π v n ν F 0 0 1 1 × NoLongPath p (modelHeap ν))) e
+    (also-row π v n ν rs r x (here-second rs 0 xs last (r + 1) h (omega (arith, rows-long π n F 0 0 start, rows-some π n F)))
+    (row-at π v n ν rs (after π n F start .row - 1) r (omega arith) (says π v n ν rs F 0 0 start (here-first rs 0 xs last h))) (λ q. q, λ q. q))

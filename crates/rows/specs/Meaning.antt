@@ -6,7 +6,9 @@ use mathlib.Core.Logic.{_⊎_, _↔_}
 use Prim.Native.Nat.{ℕ, zero, suc, _-_, _<_, _≤_}
 use lib.Dec.{eqb}
 use lib.ListN.{length, getD}
-use Rattle.logic.specs.Heap.{Map, Named}
+use Rattle.logic.specs.declared.Profile.{Profile}
+use Rattle.logic.specs.declared.Profile.the-variants.{Strong}
+use Rattle.logic.specs.Heap.{Map, MayMeet}
 use Rattle.logic.specs.Paths.{NoLongPath}
 use Rattle.rows.specs.Assignment.{Set, Member, Assignment, on}
 use Rattle.rows.specs.Row.{Row}
@@ -50,8 +52,8 @@ abbrev pub WithValues : Map → Set → ℕ → Type 0
 WithValues A S ℓ = Member S ℓ ⊎ Image A S ℓ
 
 -- "each location in both of S1 with its values and S2 with its values is named"
-abbrev pub Apart : ℕ → Map → Map → Set → Set → Type 0
-Apart v s A S1 S2 = (ℓ : ℕ) → WithValues A S1 ℓ → WithValues A S2 ℓ → Named v s ℓ
+abbrev pub Apart : Profile → ℕ → Map → Map → Set → Set → Type 0
+Apart π v s A S1 S2 = (ℓ : ℕ) → WithValues A S1 ℓ → WithValues A S2 ℓ → MayMeet π v s ℓ
 
 -- "A and B agree on S"
 abbrev pub Same : Map → Map → Set → Type 0
@@ -78,7 +80,7 @@ module _ (v : ℕ) (ν : Assignment) where
   Means T (OR r q) = T r ⊎ T q
   Means T (NOT r) = ¬ T r
   Means T (SPLIT S S1 S2) = Splits (ν .set S) (ν .set S1) (ν .set S2)
-  Means T (APART A S1 S2) = Apart v (ν .stack) (ν .array A) (ν .set S1) (ν .set S2)
+  Means T (APART A S1 S2) = Apart Strong v (ν .stack) (ν .array A) (ν .set S1) (ν .set S2)
   Means T (SAME A B S) = Same (ν .array A) (ν .array B) (ν .set S)
   Means T (LONG A S k) = Short (ν .array A) (ν .set S) k
 

@@ -4,7 +4,8 @@ use mathlib.Core.Bool.{Bool, true, false}
 use mathlib.Core.Logic.{_⊎_, inl, inr, ⊎-elim, _↔_}
 use Prim.Native.Nat.{ℕ, suc, zero-le, suc-le-suc, _≤_}
 use native.Mathlib.Omega.{arith}
-use Rattle.logic.specs.Heap.{Map, Heap, Allocated, Locs, StronglyDisjoint, Parts, Empty}
+use Rattle.logic.specs.declared.Profile.{Profile}
+use Rattle.logic.specs.Heap.{Map, Heap, Allocated, Locs, Disjoint, Parts, Empty}
 use Rattle.logic.specs.Holds.{Points, Chain, Segment}
 use Rattle.logic.specs.Tests.{pick}
 use Rattle.logic.specs.Reflect.{false-true}
@@ -124,15 +125,15 @@ with-values A S ℓ = (
   ⊎-elim (λ m. inl (allocated-of A S ℓ m)) (λ y. inr (y .0, on-member A S (y .0) (y .1) ∙ ap suc (y .2))),
 )
 
-pub apart-disjoint : (v : ℕ) (s A : Map) (S1 S2 : Set) → ((ℓ : ℕ) → ¬ (Member S1 ℓ × Member S2 ℓ)) → Apart v s A S1 S2 → StronglyDisjoint v s (on A S1) (on A S2)
-apart-disjoint v s A S1 S2 alone′ q =
+pub apart-disjoint : (π : Profile) (v : ℕ) (s A : Map) (S1 S2 : Set) → ((ℓ : ℕ) → ¬ (Member S1 ℓ × Member S2 ℓ)) → Apart π v s A S1 S2 → Disjoint π v s (on A S1) (on A S2)
+apart-disjoint π v s A S1 S2 alone′ q =
     record {
       alone = λ ℓ y. alone′ ℓ (member-of A S1 ℓ (y .0), member-of A S2 ℓ (y .1));
-      named = λ ℓ x y. q ℓ (with-values A S1 ℓ .0 x) (with-values A S2 ℓ .0 y);
+      meet = λ ℓ x y. q ℓ (with-values A S1 ℓ .0 x) (with-values A S2 ℓ .0 y);
     }
 
-pub disjoint-apart : (v : ℕ) (s A : Map) (S1 S2 : Set) → StronglyDisjoint v s (on A S1) (on A S2) → Apart v s A S1 S2
-disjoint-apart v s A S1 S2 q ℓ x y = q .named ℓ (with-values A S1 ℓ .1 x) (with-values A S2 ℓ .1 y)
+pub disjoint-apart : (π : Profile) (v : ℕ) (s A : Map) (S1 S2 : Set) → Disjoint π v s (on A S1) (on A S2) → Apart π v s A S1 S2
+disjoint-apart π v s A S1 S2 q ℓ x y = q .meet ℓ (with-values A S1 ℓ .1 x) (with-values A S2 ℓ .1 y)
 
 pub same-on : (A B : Map) (S : Set) → Same A B S → on A S ≡ on B S
 same-on A B S q = fun-ext λ ℓ. go ℓ (S ℓ) refl

@@ -5,6 +5,7 @@ use Prim.Native.Nat.{ℕ, suc, _+_, _-_, _*_, _≤_}
 use native.Mathlib.Decide.{ℕ-discrete}
 use native.Mathlib.Omega.{arith}
 use lib.ListN.{length, length-append}
+use Rattle.logic.specs.declared.Profile.{Profile}
 use Rattle.logic.specs.declared.Answer.{Answer}
 use Rattle.logic.specs.CheckLaws.{Yes, answers-single, yes-single}
 use Rattle.logic.specs.Table.{tree}
@@ -17,11 +18,11 @@ use Rattle.rows.specs.BoundsLaws as trees
 use Rattle.rows.specs.Output.{bookRows, encodingOf, encodeChecks, Encodes}
 
 -- two results that the encoder's statement allows are equal
-pub encodes-single : (s o : List ℕ) (a b : Answer) (x y : List ℕ) → Encodes s o a x → Encodes s o b y → (a ≡ b) × (x ≡ y)
-encodes-single s o a b x y p q = (same, outputs (ℕ-discrete (a .number) 0))
+pub encodes-single : (π : Profile) (s o : List ℕ) (a b : Answer) (x y : List ℕ) → Encodes π s o a x → Encodes π s o b y → (a ≡ b) × (x ≡ y)
+encodes-single π s o a b x y p q = (same, outputs (ℕ-discrete (a .number) 0))
   where
     same : a ≡ b
-    same = answers-single (encodeChecks s o) Yes yes-single a b (p .number) (q .number)
+    same = answers-single (encodeChecks π s o) Yes yes-single a b (p .number) (q .number)
 
     outputs : Dec (a .number ≡ 0) → x ≡ y
     outputs (yes e) = p .written e ∙ sym (q .written (ap (λ (r : Answer). r .number) (sym same) ∙ e))
@@ -37,9 +38,9 @@ unfolding bytesOf
 bytes-long [] = refl
 bytes-long (x ∷ xs) = simp length-append (omega (arith, bytes-long xs))
 
-pub encoding-long : (s : List ℕ) → length (encodingOf s) ≡ 14 + 10 * (rowsIn (locsOf s) (bookFormula s) + 2)
+pub encoding-long : (π : Profile) (s : List ℕ) → length (encodingOf π s) ≡ 14 + 10 * (rowsIn π (locsOf s) (bookFormula s) + 2)
 unfolding encodingOf
-encoding-long s = omega (arith, bytes-long (bookRows s), table-long (locsOf s) (pathOf s) (bookFormula s))
+encoding-long π s = omega (arith, bytes-long (bookRows π s), table-long π (locsOf s) (pathOf s) (bookFormula s))
 
 -- ---- an accepted book's
 
@@ -47,12 +48,12 @@ module _ (s : List ℕ) (w : Whole s) where
   last : nodes (formulaOf s) ≡ suc (root (formulaOf s))
   last = omega (arith, w .some)
 
-  pub rows-few : length (bookRows s) ≤ mostRows
-  rows-few =
-      omega (arith, table-long (locsOf s) (pathOf s) (bookFormula s), trees.rows-few (varsOf s) (locsOf s) (formulaOf s) (nodes (formulaOf s)) (w .sound) (w .tree) (root (formulaOf s)) last (w .few) (w .bounds .locs))
+  pub rows-few : (π : Profile) → length (bookRows π s) ≤ mostRows
+  rows-few π =
+      omega (arith, table-long π (locsOf s) (pathOf s) (bookFormula s), trees.rows-few (varsOf s) (locsOf s) (formulaOf s) (nodes (formulaOf s)) (w .sound) (w .tree) (root (formulaOf s)) last (w .few) (w .bounds .locs) π)
 
-  pub bytes-few : length (encodingOf s) ≤ mostBytes
-  bytes-few = omega (arith, encoding-long s, table-long (locsOf s) (pathOf s) (bookFormula s), rows-few)
+  pub bytes-few : (π : Profile) → length (encodingOf π s) ≤ mostBytes
+  bytes-few π = omega (arith, encoding-long π s, table-long π (locsOf s) (pathOf s) (bookFormula s), rows-few π)
 
   pub arrays-few : arrays (bookFormula s) ≤ mostArrays
   arrays-few = trees.arrays-few (varsOf s) (locsOf s) (formulaOf s) (nodes (formulaOf s)) (w .sound) (w .tree) (root (formulaOf s)) last (w .few) (w .bounds .locs)

@@ -6,7 +6,8 @@ use Prim.Native.Nat.{ℕ, suc, pred, _<_, _≤_}
 use native.Mathlib.Decide.{ℕ-discrete}
 use native.Mathlib.Omega.{arith}
 use borrow.Author.Tests.{eq-eqb}
-use Rattle.logic.specs.Heap.{Map, Heap, Allocated, StronglyDisjoint, Parts}
+use Rattle.logic.specs.declared.Profile.{Profile}
+use Rattle.logic.specs.Heap.{Map, Heap, Allocated, Disjoint, Parts}
 use Rattle.logic.specs.Tests.{allocated}
 use Rattle.logic.specs.Agree.{is-allocated, union-heap, union-is}
 use Rattle.rows.specs.Assignment.{Set, Member, on}
@@ -57,9 +58,9 @@ module _ (A : Map) (S : Set) (g r : Map) (pt : Parts g r (on A S)) where
   pub second-part : on A (allocated r) ≡ r
   second-part = on-allocated A r (λ ℓ f. ⊎-elim (λ e. absurd (f (e .1))) (λ e. e .1 ∙ value-on ℓ (λ z. f (e .1 ∙ z))) (pt ℓ))
 
-  pub parts-apart : (v : ℕ) (s : Map) → StronglyDisjoint v s g r → Apart v s A (allocated g) (allocated r)
-  parts-apart v s d =
-      disjoint-apart v s A (allocated g) (allocated r) (subst₂ (StronglyDisjoint v s) (sym first-part) (sym second-part) d)
+  pub parts-apart : (π : Profile) (v : ℕ) (s : Map) → Disjoint π v s g r → Apart π v s A (allocated g) (allocated r)
+  parts-apart π v s d =
+      disjoint-apart π v s A (allocated g) (allocated r) (subst₂ (Disjoint π v s) (sym first-part) (sym second-part) d)
 
 -- operator 10: g and array A on set S are parts of u, whose values are those of the new array
 pub values : Map → Map
@@ -97,9 +98,9 @@ module _ (A : Map) (S : Set) (g u : Map) (pt : Parts g (on A S) u) where
       of-suc : (x y : ℕ) → x ≡ suc y → y ≡ pred x
       of-suc x y e = omega arith
 
-  pub added-apart : (v : ℕ) (s : Map) → StronglyDisjoint v s g (on A S) → Apart v s (values u) (allocated g) S
-  added-apart v s d =
-      disjoint-apart v s (values u) (allocated g) S (subst₂ (StronglyDisjoint v s) (sym added-part) (same-on A (values u) S added-same) d)
+  pub added-apart : (π : Profile) (v : ℕ) (s : Map) → Disjoint π v s g (on A S) → Apart π v s (values u) (allocated g) S
+  added-apart π v s d =
+      disjoint-apart π v s (values u) (allocated g) S (subst₂ (Disjoint π v s) (sym added-part) (same-on A (values u) S added-same) d)
 
   pub whole-heap : (n : ℕ) → Heap n g → Heap n (on A S) → Heap n u
   whole-heap n kg kh = subst (Heap n) (union-is g (on A S) u pt) (union-heap n g (on A S) kg kh)

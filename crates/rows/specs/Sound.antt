@@ -2,7 +2,8 @@
 use mathlib.Core.Path.{sym, subst}
 use mathlib.Core.Logic.{inl, inr, ⊎-elim, _↔_}
 use Prim.Native.Nat.{ℕ, _+_}
-use Rattle.logic.specs.Heap.{Map, StronglyDisjoint, Parts}
+use Rattle.logic.specs.declared.Profile.{Profile}
+use Rattle.logic.specs.Heap.{Map, Disjoint, Parts}
 use Rattle.logic.specs.Formula.{Form}
 use Rattle.logic.specs.Formula.Form.{same, diff, pts, ls, conj, disj, but, neg, sep, sept}
 use Rattle.logic.specs.Holds.{Holds}
@@ -11,13 +12,13 @@ use Rattle.rows.specs.Table.{arraysIn, setsIn, Flat, Encodable}
 use Rattle.rows.specs.Condition.{Condition}
 use Rattle.rows.specs.OnSet.{on-heap, empty-on, points-on, segment-on, splits-parts, apart-disjoint, same-on}
 
-module _ (v n : ℕ) (ν : Assignment) (k : ValuesInRange v n ν) where
+module _ (π : Profile) (v n : ℕ) (ν : Assignment) (k : ValuesInRange v n ν) where
   -- the truth of a formula on array A and set S
   abbrev Truth : Form → ℕ → ℕ → Type 0
-  Truth F A S = Holds v n F (ν .stack) (on (ν .array A) (ν .set S))
+  Truth F A S = Holds π v n F (ν .stack) (on (ν .array A) (ν .set S))
 
   -- a formula without operators 9 and 10 adds nothing: its condition is its truth
-  pub flat : (F : Form) (A S i j : ℕ) → Flat F → Condition v n ν F A S i j ↔ Truth F A S
+  pub flat : (F : Form) (A S i j : ℕ) → Flat F → Condition π v n ν F A S i j ↔ Truth F A S
   unfolding Flat Holds Condition
   flat (same x y) A S i j c = let e = empty-on (ν .array A) (ν .set S) in (λ q. (q .0, e .0 (q .1)), λ q. (q .0, e .1 (q .1)))
   flat (diff x y) A S i j c = let e = empty-on (ν .array A) (ν .set S) in (λ q. (q .0, e .0 (q .1)), λ q. (q .0, e .1 (q .1)))
@@ -39,7 +40,7 @@ module _ (v n : ℕ) (ν : Assignment) (k : ValuesInRange v n ν) where
   flat (sep a b) A S i j c = absurd c
   flat (sept a b) A S i j c = absurd c
 
-  pub sound : (F : Form) (A S i j : ℕ) → Encodable F → Condition v n ν F A S i j → Truth F A S
+  pub sound : (F : Form) (A S i j : ℕ) → Encodable F → Condition π v n ν F A S i j → Truth F A S
   unfolding Encodable Holds Condition
   sound (same x y) A S i j c q = flat (same x y) A S i j (unfold Flat in tt) .0 (unfold Condition in q)
   sound (diff x y) A S i j c q = flat (diff x y) A S i j (unfold Flat in tt) .0 (unfold Condition in q)
@@ -53,7 +54,7 @@ module _ (v n : ℕ) (ν : Assignment) (k : ValuesInRange v n ν) where
     on (ν .array A) (ν .set j),
     on (ν .array A) (ν .set (j + 1)),
     splits-parts (ν .array A) (ν .set S) (ν .set j) (ν .set (j + 1)) (q .0 .1),
-    apart-disjoint v (ν .stack) (ν .array A) (ν .set j) (ν .set (j + 1)) (q .0 .1 .alone) (q .1),
+    apart-disjoint π v (ν .stack) (ν .array A) (ν .set j) (ν .set (j + 1)) (q .0 .1 .alone) (q .1),
     sound a A j i (j + 2) (c .0) (q .0 .0 .0),
     sound b A (j + 1) (i + arraysIn a) (j + 2 + setsIn a) (c .1) (q .0 .0 .1),
   )
@@ -64,7 +65,7 @@ module _ (v n : ℕ) (ν : Assignment) (k : ValuesInRange v n ν) where
         on (ν .array i) (ν .set (j + 1)),
         on-heap v n ν i j k,
         subst (λ (h : Map). Parts g h (on (ν .array i) (ν .set (j + 1)))) (sym e) (splits-parts (ν .array i) (ν .set (j + 1)) (ν .set j) (ν .set S) (q .0 .0 .1)),
-        subst (λ (h : Map). StronglyDisjoint v (ν .stack) g h) (sym e) (apart-disjoint v (ν .stack) (ν .array i) (ν .set j) (ν .set S) (q .0 .0 .1 .alone) (q .0 .1)),
+        subst (λ (h : Map). Disjoint π v (ν .stack) g h) (sym e) (apart-disjoint π v (ν .stack) (ν .array i) (ν .set j) (ν .set S) (q .0 .0 .1 .alone) (q .0 .1)),
         sound a i j (i + 1) (j + 2) (c .0) (q .0 .0 .0 .0),
         sound b i (j + 1) (i + 1 + arraysIn a) (j + 2 + setsIn a) (c .1) (q .0 .0 .0 .1),
       )

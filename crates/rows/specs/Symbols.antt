@@ -7,6 +7,7 @@ use Prim.Native.Nat.{ℕ, _+_, _<_, _≤_}
 use native.Mathlib.Omega.{arith}
 use lib.Dec.{eqb}
 use borrow.Author.Tests.{eq-eqb, ne-eqb}
+use Rattle.logic.specs.declared.Profile.{Profile}
 use Rattle.logic.specs.Heap.{Map}
 use Rattle.logic.specs.Formula.{Form}
 use Rattle.logic.specs.Formula.Form.{same, diff, pts, ls, conj, disj, but, neg, sep, sept}
@@ -33,8 +34,8 @@ pub agree-trans : {i j : ℕ} {ν μ κ : Assignment} → Agree i j ν μ → Ag
 agree-trans g h = record { stack = g .stack ∙ h .stack; array = λ k l. g .array k l ∙ h .array k l; set = λ k l. g .set k l ∙ h .set k l }
 
 -- what a condition over array A and set S says under ν it says under each μ that agrees with ν so far
-module _ (v n : ℕ) where
-  pub condition-kept : (F : Form) (ν μ : Assignment) (A S i j : ℕ) → A < i → S < j → Agree (i + arraysIn F) (j + setsIn F) ν μ → Condition v n ν F A S i j → Condition v n μ F A S i j
+module _ (π : Profile) (v n : ℕ) where
+  pub condition-kept : (F : Form) (ν μ : Assignment) (A S i j : ℕ) → A < i → S < j → Agree (i + arraysIn F) (j + setsIn F) ν μ → Condition π v n ν F A S i j → Condition π v n μ F A S i j
   unfolding Condition arraysIn setsIn
   condition-kept (same x y) ν μ A S i j a b g q = rw (← (g .stack), ← (g .set S (omega arith))) q
   condition-kept (diff x y) ν μ A S i j a b g q = rw (← (g .stack), ← (g .set S (omega arith))) q

@@ -2,6 +2,8 @@
 -- definitions.
 use mathlib.Core.List.{List, [], _∷_, _++_}
 use Prim.Native.Nat.{ℕ, zero, suc, _+_, _-_}
+use Rattle.logic.specs.declared.Profile.{Profile}
+use Rattle.logic.specs.declared.Profile.the-variants.{Strong, Ordinary}
 use Rattle.logic.specs.Formula.{Form}
 use Rattle.logic.specs.Formula.Form.{same, diff, pts, ls, conj, disj, but, neg, sep, sept}
 use Rattle.rows.specs.declared.Next.{Next}
@@ -68,14 +70,23 @@ pairRows r x y = x ∷ y ∷ AND r (r + 1) ∷ []
 abbrev pub also : ℕ → Row → List Row
 also r x = x ∷ AND r (r + 1) ∷ []
 
+-- "without APART rows and the AND after each" in the ordinary profile
+abbrev pub alsoApart : Profile → ℕ → Row → List Row
+alsoApart Strong r x = also r x
+alsoApart Ordinary r x = []
+
+abbrev pub apartRows : Profile → ℕ
+apartRows Strong = 2
+apartRows Ordinary = 0
+
 -- own rows of operator 9, from row m on: "AND of the children, SPLIT S S1 S2, AND, APART A S1 S2, AND". l is the row after a's
-abbrev pub sepRows : ℕ → ℕ → ℕ → ℕ → ℕ → ℕ → List Row
-sepRows A S S1 S2 l m = (AND (l - 1) (m - 1) ∷ also m (SPLIT S S1 S2)) ++ also (m + 2) (APART A S1 S2)
+abbrev pub sepRows : Profile → ℕ → ℕ → ℕ → ℕ → ℕ → ℕ → List Row
+sepRows π A S S1 S2 l m = (AND (l - 1) (m - 1) ∷ also m (SPLIT S S1 S2)) ++ alsoApart π (m + 2) (APART A S1 S2)
 
 -- own rows of operator 10: "AND of the children, SPLIT S2 S1 S, AND, APART B S1 S, AND, SAME A B S, AND"
-abbrev pub septRows : ℕ → ℕ → ℕ → ℕ → ℕ → ℕ → ℕ → List Row
-septRows A B S S1 S2 l m =
-    ((AND (l - 1) (m - 1) ∷ also m (SPLIT S2 S1 S)) ++ also (m + 2) (APART B S1 S)) ++ also (m + 4) (SAME A B S)
+abbrev pub septRows : Profile → ℕ → ℕ → ℕ → ℕ → ℕ → ℕ → ℕ → List Row
+septRows π A B S S1 S2 l m =
+    ((AND (l - 1) (m - 1) ∷ also m (SPLIT S2 S1 S)) ++ alsoApart π (m + 2) (APART B S1 S)) ++ also (m + 2 + apartRows π) (SAME A B S)
 
 -- "Allowed: no operator 9 or 10 below operator 8 or in the b side of operator 7": neither of them in a formula, and in none of
 -- those places of a formula
@@ -104,7 +115,7 @@ Encodable (sep a b) = Encodable a × Encodable b
 Encodable (sept a b) = Encodable a × Encodable b
 
 -- n is the number of locations: no list segment has more links
-module _ (n : ℕ) where
+module _ (π : Profile) (n : ℕ) where
   -- how many rows a formula has
   unfoldable pub rowsIn : Form → ℕ
   rowsIn (same x y) = 3
@@ -115,8 +126,8 @@ module _ (n : ℕ) where
   rowsIn (disj a b) = rowsIn a + rowsIn b + 1
   rowsIn (but a b) = rowsIn a + rowsIn b + 2
   rowsIn (neg a) = rowsIn a + 1
-  rowsIn (sep a b) = rowsIn a + rowsIn b + 5
-  rowsIn (sept a b) = rowsIn a + rowsIn b + 7
+  rowsIn (sep a b) = rowsIn a + rowsIn b + (3 + apartRows π)
+  rowsIn (sept a b) = rowsIn a + rowsIn b + (5 + apartRows π)
 
   -- "New symbols are numbered by a walk from the root, a node before its children, a's tree before b's.": the numbers after a
   -- formula
@@ -151,14 +162,14 @@ module _ (n : ℕ) where
       let S2 = s .set + 1 in
       let t = after a (twoSets s) in
       let u = after b t in
-      (rowsOf a A S1 (twoSets s) ++ rowsOf b A S2 t) ++ sepRows A S S1 S2 (t .row) (u .row)
+      (rowsOf a A S1 (twoSets s) ++ rowsOf b A S2 t) ++ sepRows π A S S1 S2 (t .row) (u .row)
   rowsOf (sept a b) A S s =
       let B = s .array in
       let S1 = s .set in
       let S2 = s .set + 1 in
       let t = after a (arrayAndSets s) in
       let u = after b t in
-      (rowsOf a B S1 (arrayAndSets s) ++ rowsOf b B S2 t) ++ septRows A B S S1 S2 (t .row) (u .row)
+      (rowsOf a B S1 (arrayAndSets s) ++ rowsOf b B S2 t) ++ septRows π A B S S1 S2 (t .row) (u .row)
 
 -- "Array 0 and set 0 are the root's."; "row numbers start at 0"
 abbrev pub start : Next
@@ -166,8 +177,8 @@ start = record { row = 0; array = 1; set = 1 }
 
 -- the rows of a whole formula, and how many arrays and sets they are over
 -- "the last two rows are LONG over array 0 and set 0 with p, and an AND"
-abbrev pub table : ℕ → ℕ → Form → List Row
-table n p F = rowsOf n F 0 0 start ++ also (rowsIn n F - 1) (LONG 0 0 p)
+abbrev pub table : Profile → ℕ → ℕ → Form → List Row
+table π n p F = rowsOf π n F 0 0 start ++ also (rowsIn π n F - 1) (LONG 0 0 p)
 
 abbrev pub arrays : Form → ℕ
 arrays F = 1 + arraysIn F

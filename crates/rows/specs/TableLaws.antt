@@ -2,17 +2,21 @@
 use mathlib.Core.Path.{_≡_, refl, sym, ap, _∙_}
 use mathlib.Core.List.{List, [], _∷_, _++_}
 use mathlib.Core.Logic.{⊎-elim}
-use Prim.Native.Nat.{ℕ, zero, suc, _+_, _<_}
+use Prim.Native.Nat.{ℕ, zero, suc, _+_, _<_, _≤_}
 use native.Mathlib.Nat.{not-suc-le-zero, eq-or-lt-of-le, le-of-suc-le-suc}
 use native.Mathlib.Omega.{arith}
 use lib.ListN.{length, getD, length-append, List·getD-append}
 use lib.Seq.{getD-append-add, getD-at}
+use Rattle.logic.specs.declared.Profile.{Profile}
+use Rattle.logic.specs.declared.Profile.the-variants.{Strong, Ordinary}
 use Rattle.logic.specs.Formula.{Form}
 use Rattle.logic.specs.Formula.Form.{same, diff, pts, ls, conj, disj, but, neg, sep, sept}
+use Rattle.logic.specs.Table.{atomOf}
+use Rattle.logic.specs.Operators.{each-atom}
 use Rattle.rows.specs.declared.Next.{Next}
 use Rattle.rows.specs.Row.{Row}
-use Rattle.rows.specs.Row.Row.{EQ, CHAIN, OR}
-use Rattle.rows.specs.Table.{twoSets, arrayAndSets, after, chains, ors, soFar, rowsIn, rowsOf, start, table}
+use Rattle.rows.specs.Row.Row.{EQ, CHAIN, OR, APART}
+use Rattle.rows.specs.Table.{twoSets, arrayAndSets, after, chains, ors, soFar, apartRows, alsoApart, rowsIn, rowsOf, start, table}
 
 pub chains-long : (A S x y k : ℕ) → length (chains A S x y k) ≡ k
 unfolding chains
@@ -41,8 +45,12 @@ ors-at r q (suc m) i l =
     (λ (z : i < m). List·getD-append (ors r q m) (OR (soFar r q m) (r + m + 1) ∷ []) (EQ 0 0) i (omega (arith, ors-long r q m)) ∙ ors-at r q m i z)
     (eq-or-lt-of-le (le-of-suc-le-suc l))
 
-module _ (n : ℕ) where
-  pub rows-some : (F : Form) → 0 < rowsIn n F
+pub apart-long : (π : Profile) (r : ℕ) (x : Row) → length (alsoApart π r x) ≡ apartRows π
+apart-long Strong r x = refl
+apart-long Ordinary r x = refl
+
+module _ (π : Profile) (n : ℕ) where
+  pub rows-some : (F : Form) → 0 < rowsIn π n F
   unfolding rowsIn
   rows-some (same x y) = omega arith
   rows-some (diff x y) = omega arith
@@ -57,7 +65,7 @@ module _ (n : ℕ) where
 
   -- what is to be shown of a formula
   abbrev pub Long : Form → Type 0
-  Long F = (A S : ℕ) (s : Next) → length (rowsOf n F A S s) ≡ rowsIn n F
+  Long F = (A S : ℕ) (s : Next) → length (rowsOf π n F A S s) ≡ rowsIn π n F
 
   pub rows-long : (F : Form) → Long F
   unfolding rowsOf rowsIn
@@ -66,22 +74,32 @@ module _ (n : ℕ) where
   rows-long (pts x y) A S s = refl
   rows-long (ls x y) A S s =
       simp length-append (omega (arith, chains-long A S x y (n + 1), ors-long (s .row) (s .row + (n + 1)) n))
-  rows-long (conj a b) A S s = simp length-append (omega (arith, rows-long a A S s, rows-long b A S (after n a s)))
-  rows-long (disj a b) A S s = simp length-append (omega (arith, rows-long a A S s, rows-long b A S (after n a s)))
-  rows-long (but a b) A S s = simp length-append (omega (arith, rows-long a A S s, rows-long b A S (after n a s)))
+  rows-long (conj a b) A S s = simp length-append (omega (arith, rows-long a A S s, rows-long b A S (after π n a s)))
+  rows-long (disj a b) A S s = simp length-append (omega (arith, rows-long a A S s, rows-long b A S (after π n a s)))
+  rows-long (but a b) A S s = simp length-append (omega (arith, rows-long a A S s, rows-long b A S (after π n a s)))
   rows-long (neg a) A S s = simp length-append (omega (arith, rows-long a A S s))
   rows-long (sep a b) A S s =
-      simp length-append (omega (arith, rows-long a A (s .set) (twoSets s), rows-long b A (s .set + 1) (after n a (twoSets s))))
+      simp length-append (omega (arith, rows-long a A (s .set) (twoSets s), rows-long b A (s .set + 1) (after π n a (twoSets s)), apart-long π (after π n b (after π n a (twoSets s)) .row + 2) (APART A (s .set) (s .set + 1))))
   rows-long (sept a b) A S s =
-      simp length-append (omega (arith, rows-long a (s .array) (s .set) (arrayAndSets s), rows-long b (s .array) (s .set + 1) (after n a (arrayAndSets s))))
+      simp length-append (omega (arith, rows-long a (s .array) (s .set) (arrayAndSets s), rows-long b (s .array) (s .set + 1) (after π n a (arrayAndSets s)), apart-long π (after π n b (after π n a (arrayAndSets s)) .row + 2) (APART (s .array) (s .set) S)))
 
   -- two trees over array A
-  pub trees-long : (a b : Form) (A S T : ℕ) (s : Next) → length (rowsOf n a A S s ++ rowsOf n b A T (after n a s)) ≡ rowsIn n a + rowsIn n b
-  trees-long a b A S T s = simp length-append (omega (arith, rows-long a A S s, rows-long b A T (after n a s)))
+  pub trees-long : (a b : Form) (A S T : ℕ) (s : Next) → length (rowsOf π n a A S s ++ rowsOf π n b A T (after π n a s)) ≡ rowsIn π n a + rowsIn π n b
+  trees-long a b A S T s = simp length-append (omega (arith, rows-long a A S s, rows-long b A T (after π n a s)))
+
+-- atoms have the same rows in both profiles
+module _ (π : Profile) (n x y : ℕ) where
+  pub atom-long : (o : ℕ) → 1 ≤ o → o ≤ 4 → rowsIn π n (atomOf o x y) ≡ rowsIn Strong n (atomOf o x y)
+  unfolding rowsIn atomOf
+  atom-long = each-atom (λ o. rowsIn π n (atomOf o x y) ≡ rowsIn Strong n (atomOf o x y)) refl refl refl refl
+
+  pub atom-rows : (A S : ℕ) (s : Next) (o : ℕ) → 1 ≤ o → o ≤ 4 → rowsOf π n (atomOf o x y) A S s ≡ rowsOf Strong n (atomOf o x y) A S s
+  unfolding rowsOf atomOf
+  atom-rows A S s = each-atom (λ o. rowsOf π n (atomOf o x y) A S s ≡ rowsOf Strong n (atomOf o x y) A S s) refl refl refl refl
 
 -- a whole table: the formula's rows, LONG and its AND
-pub table-long : (n p : ℕ) (F : Form) → length (table n p F) ≡ rowsIn n F + 2
-table-long n p F = simp length-append (omega (arith, rows-long n F 0 0 start))
+pub table-long : (π : Profile) (n p : ℕ) (F : Form) → length (table π n p F) ≡ rowsIn π n F + 2
+table-long π n p F = simp length-append (omega (arith, rows-long π n F 0 0 start))
 
 -- rows xs stand in the table rs from row r on
 abbrev pub Here : List Row → ℕ → List Row → Type 0

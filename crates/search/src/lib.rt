@@ -5,6 +5,7 @@ use hunt::Ended;
 use hunt::hunt;
 use leaves::answer_of;
 use logic::Answer;
+use logic::Profile;
 use packing::table_of;
 use strays::named;
 ghost use Prim.Native.Nat.{_+_, _≤_};
@@ -17,12 +18,12 @@ ghost use Rattle.logic.specs.Search.{CandidateFits, Searches};
 ghost use Rattle.hunt.specs.Hunt.{Hunted};
 
 // The hunt for the lowest candidate that fits the formula f.
-fn hunt_in(f: &[u8], v: u64, n: u64, p: u64, budget: u64) -> Ended
+fn hunt_in(profile: Profile, f: &[u8], v: u64, n: u64, p: u64, budget: u64) -> Ended
     requires { ⌜ Known v (now f) × (v ≤ most) × (n ≤ most) ⌝ }
-    ensures { λ r. ⌜ Hunted v n (CandidateFits v n p (tree (now (f .entry)) (root (now (f .entry))))) budget (r .answer) (r .at) ⌝ }
+    ensures { λ r. ⌜ Hunted v n (CandidateFits profile v n p (tree (now (f .entry)) (root (now (f .entry))))) budget (r .answer) (r .at) ⌝ }
 {
     let t = table_of(f);
-    hunt(&t, f.len() / 3 - 1, v, n, p, budget)
+    hunt(profile, &t, f.len() / 3 - 1, v, n, p, budget)
 }
 
 // Whether an output of that many bytes has room for a model.
@@ -36,10 +37,10 @@ fn room(v: u64, n: u64, space: usize) -> Answer
     answer_of(logic::YES, 0)
 }
 
-// Searches the book for a model, with at most that many candidates tried. A model that is found goes to the front of the
+// Searches the book for a model that fits in the profile, with at most that many candidates tried. A model that is found goes to the front of the
 // output.
-pub fn search(book: &[u8], budget: u64, out: &mut [u8]) -> Answer
-    ensures { λ r. ⌜ Searches (now (book .entry)) budget (now (out .entry)) r (now (out .exit)) ⌝ }
+pub fn search(profile: Profile, book: &[u8], budget: u64, out: &mut [u8]) -> Answer
+    ensures { λ r. ⌜ Searches profile (now (book .entry)) budget (now (out .entry)) r (now (out .exit)) ⌝ }
 {
     let opened = open(book);
     let first = opened.answer;
@@ -57,7 +58,7 @@ pub fn search(book: &[u8], budget: u64, out: &mut [u8]) -> Answer
     if space.number != logic::YES {
         return space;
     }
-    let r = hunt_in(f, v, n, opened.p, budget);
+    let r = hunt_in(profile, f, v, n, opened.p, budget);
     let answer = r.answer;
     let c = r.at;
     if answer.number == logic::YES {

@@ -1,6 +1,7 @@
 // The rows of a formula's tree: a's tree, b's tree, own rows.
 use leaves::short;
 use leaves::wide;
+use logic::Profile;
 use ownrows::put_atom;
 use ownrows::put_but;
 use ownrows::put_sep;
@@ -22,16 +23,25 @@ pub struct Trees {
 }
 
 // Writes the rows of node k over array a and set s.
-pub fn node(out: &mut [u8], f: &[u8], n: u8, k: usize, a: u16, s: u16, st: Next) -> Next
-    requires { ⌜ (k < nodes (now f)) × (n < 255) × KnownTable (now f) × Room n (tree (now f) k) st (now out) ⌝ }
-    ensures { λ r. ⌜ Encoded n (tree (now (f .entry)) k) a s st r (now (out .entry)) (now (out .exit)) ⌝ }
+pub fn node(
+    out: &mut [u8],
+    profile: Profile,
+    f: &[u8],
+    n: u8,
+    k: usize,
+    a: u16,
+    s: u16,
+    st: Next,
+) -> Next
+    requires { ⌜ (k < nodes (now f)) × (n < 255) × KnownTable (now f) × Room profile n (tree (now f) k) st (now out) ⌝ }
+    ensures { λ r. ⌜ Encoded profile n (tree (now (f .entry)) k) a s st r (now (out .entry)) (now (out .exit)) ⌝ }
 {
     let op = f[3 * k];
     let x = f[3 * k + 1];
     let y = f[3 * k + 2];
     match op {
         1..=4 => put_atom(out, op, short(x), short(y), n, a, s, st),
-        5..=10 => join(out, f, n, k, op, wide(x), wide(y), a, s, st),
+        5..=10 => join(out, profile, f, n, k, op, wide(x), wide(y), a, s, st),
         _ => st,
     }
 }
@@ -39,6 +49,7 @@ pub fn node(out: &mut [u8], f: &[u8], n: u8, k: usize, a: u16, s: u16, st: Next)
 // Writes the rows of a connective over the nodes x and y.
 fn join(
     out: &mut [u8],
+    profile: Profile,
     f: &[u8],
     n: u8,
     k: usize,
@@ -49,24 +60,24 @@ fn join(
     s: u16,
     st: Next,
 ) -> Next
-    requires { ⌜ (k < nodes (now f)) × (x < k) × (y < k) × (5 ≤ op) × (op ≤ 10) × (n < 255) × KnownTable (now f) × Room n (joinOf op (tree (now f) x) (tree (now f) y)) st (now out) ⌝ }
-    ensures { λ r. ⌜ Encoded n (joinOf op (tree (now (f .entry)) x) (tree (now (f .entry)) y)) a s st r (now (out .entry)) (now (out .exit)) ⌝ }
+    requires { ⌜ (k < nodes (now f)) × (x < k) × (y < k) × (5 ≤ op) × (op ≤ 10) × (n < 255) × KnownTable (now f) × Room profile n (joinOf op (tree (now f) x) (tree (now f) y)) st (now out) ⌝ }
+    ensures { λ r. ⌜ Encoded profile n (joinOf op (tree (now (f .entry)) x) (tree (now (f .entry)) y)) a s st r (now (out .entry)) (now (out .exit)) ⌝ }
 {
     match op {
         5 => {
-            let t = both(out, f, n, k, x, y, a, s, s, st);
+            let t = both(out, profile, f, n, k, x, y, a, s, s, st);
             put_and(out, t.next, t.first - 1, t.next.row - 1)
         }
         6 => {
-            let t = both(out, f, n, k, x, y, a, s, s, st);
+            let t = both(out, profile, f, n, k, x, y, a, s, s, st);
             put_or(out, t.next, t.first - 1, t.next.row - 1)
         }
         7 => {
-            let t = both(out, f, n, k, x, y, a, s, s, st);
+            let t = both(out, profile, f, n, k, x, y, a, s, s, st);
             put_but(out, t.next, t.first)
         }
         8 => {
-            let t = node(out, f, n, x, a, s, st);
+            let t = node(out, profile, f, n, x, a, s, st);
             put_not(out, t, t.row - 1)
         }
         9 => {
@@ -76,8 +87,8 @@ fn join(
                 array: st.array,
                 set: i + 2,
             };
-            let t = both(out, f, n, k, x, y, a, i, i + 1, new);
-            put_sep(out, t.next, t.first, a, s, i)
+            let t = both(out, profile, f, n, k, x, y, a, i, i + 1, new);
+            put_sep(out, profile, t.next, t.first, a, s, i)
         }
         _ => {
             let i = st.set;
@@ -87,8 +98,8 @@ fn join(
                 array: b + 1,
                 set: i + 2,
             };
-            let t = both(out, f, n, k, x, y, b, i, i + 1, new);
-            put_sept(out, t.next, t.first, a, b, s, i)
+            let t = both(out, profile, f, n, k, x, y, b, i, i + 1, new);
+            put_sept(out, profile, t.next, t.first, a, b, s, i)
         }
     }
 }
@@ -96,6 +107,7 @@ fn join(
 // Writes the rows of the nodes x and y, over one array and two sets.
 fn both(
     out: &mut [u8],
+    profile: Profile,
     f: &[u8],
     n: u8,
     k: usize,
@@ -106,10 +118,10 @@ fn both(
     t: u16,
     st: Next,
 ) -> Trees
-    requires { ⌜ (k < nodes (now f)) × (x < k) × (y < k) × (n < 255) × KnownTable (now f) × RoomTrees n (tree (now f) x) (tree (now f) y) st 0 (now out) ⌝ }
-    ensures { λ r. ⌜ TreesPut n (tree (now (f .entry)) x) (tree (now (f .entry)) y) a s t st (r .first) (r .next) (now (out .entry)) (now (out .exit)) ⌝ }
+    requires { ⌜ (k < nodes (now f)) × (x < k) × (y < k) × (n < 255) × KnownTable (now f) × RoomTrees profile n (tree (now f) x) (tree (now f) y) st 0 (now out) ⌝ }
+    ensures { λ r. ⌜ TreesPut profile n (tree (now (f .entry)) x) (tree (now (f .entry)) y) a s t st (r .first) (r .next) (now (out .entry)) (now (out .exit)) ⌝ }
 {
-    let u = node(out, f, n, x, a, s, st);
-    let next = node(out, f, n, y, a, t, u);
+    let u = node(out, profile, f, n, x, a, s, st);
+    let next = node(out, profile, f, n, y, a, t, u);
     Trees { first: u.row, next }
 }

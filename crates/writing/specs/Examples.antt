@@ -5,6 +5,7 @@ use mathlib.Core.List.{List, [], _∷_, _++_}
 use Prim.Native.Nat.{ℕ, _<_, _≤_}
 use native.Mathlib.Omega.{arith}
 use lib.ListN.{length, getD, drop}
+use Rattle.logic.specs.declared.Profile.the-variants.{Strong}
 use Rattle.logic.specs.declared.Answer.{Answer}
 use Rattle.logic.specs.Numbers.{answer, yes-number, no-number, output-length}
 use Rattle.logic.specs.Tests.{andb, sameBytes, any, all, digit, inPart, heapOf, part, rest, union, without, named, empty, isValue, inLocs, within, apartAt, apart, points, chain, stepped, pathFrom, short, sepAt, septAt}
@@ -101,10 +102,10 @@ unfolding bookOf sizeOf listing collect position formOf phraseOf tree deep nodeF
 p8-again = (refl, refl)
 
 -- so the two parts 1 → 3 and 2 → 3, which meet where the third variable is, meet nowhere that is named
-pub p8-fits : JudgedRight (record { book = p8; model = 1 ∷ 2 ∷ 3 ∷ 3 ∷ 3 ∷ 255 ∷ []; number = yes-number })
+pub p8-fits : JudgedRight (record { profile = Strong; book = p8; model = 1 ∷ 2 ∷ 3 ∷ 3 ∷ 3 ∷ 255 ∷ []; number = yes-number })
 unfolding judgedTest accepted laidOut boundsOk formulaOk nodeOk operandOk tableOk modelOk fitsBook short pathFrom stepped stackIn heapIn truth any all digit inPart heapOf part rest union without named empty isValue inLocs within apartAt apart points chain sepAt septAt kindOf uses tree deep nodeForm atomOf joinOf joinFrom5
 p8-fits = judged-right _ refl
 
-pub p8-again-fits-not : JudgedRight (record { book = bookAgain p8; model = 3 ∷ 3 ∷ 255 ∷ []; number = no-number })
+pub p8-again-fits-not : JudgedRight (record { profile = Strong; book = bookAgain p8; model = 3 ∷ 3 ∷ 255 ∷ []; number = no-number })
 unfolding bookOf sizeOf listing collect position formOf phraseOf judgedTest accepted laidOut boundsOk formulaOk nodeOk operandOk tableOk modelOk fitsBook short pathFrom stepped stackIn heapIn truth any all digit inPart heapOf part rest union without named empty isValue inLocs within apartAt apart points chain sepAt septAt kindOf uses tree deep nodeForm atomOf joinOf joinFrom5
 p8-again-fits-not = judged-right _ refl

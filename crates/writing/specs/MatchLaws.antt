@@ -7,6 +7,7 @@ use native.Mathlib.Omega.{arith}
 use Rattle.logic.specs.Heap.{Map, Stack}
 use Rattle.logic.specs.Book.{varsOf, locsOf, bookFormula, Accepted}
 use Rattle.logic.specs.BookLaws.{accepted-whole}
+use Rattle.logic.specs.declared.Profile.{Profile}
 use Rattle.logic.specs.Model.{stackIn, heapIn, FitsBook}
 use Rattle.logic.specs.ModelLaws.{model-stack, model-heap}
 use Rattle.logic.specs.NumberLaws.{same-in-base}
@@ -124,10 +125,10 @@ module _ (s : List ℕ) (accepted : Accepted s) (all : AllNamed s) where
   one-matched m k m′ ok ok′ p q = one-model s m k ok ok′ (λ x l. sym (p .stack x l) ∙ q .stack x l) (sym (p .heap) ∙ q .heap)
 
   -- so some model fits the book exactly if some model fits the book again
-  pub some-fits : FitsText s → Iff ((m : List ℕ) × ModelOf s m × FitsBook s m) ((m : List ℕ) × ModelOf s m × FitsBook (bookAgain s) m)
-  some-fits fits =
+  pub some-fits : FitsText s → (π : Profile) → Iff ((m : List ℕ) × ModelOf s m × FitsBook π s m) ((m : List ℕ) × ModelOf s m × FitsBook π (bookAgain s) m)
+  some-fits fits π =
       let same = round-trip s accepted all fits .2 in
       record {
-        to = λ q. let w = matched-there (q .0) (q .1) in (w .0, w .1, same (q .0) (w .0) (q .1) (w .1) (w .2) .to (q .2));
-        from = λ q. let w = matched-back (q .0) (q .1) in (w .0, w .1, same (w .0) (q .0) (w .1) (q .1) (w .2) .from (q .2));
+        to = λ q. let w = matched-there (q .0) (q .1) in (w .0, w .1, same π (q .0) (w .0) (q .1) (w .1) (w .2) .to (q .2));
+        from = λ q. let w = matched-back (q .0) (q .1) in (w .0, w .1, same π (w .0) (q .0) (w .1) (q .1) (w .2) .from (q .2));
       }

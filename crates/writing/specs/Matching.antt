@@ -5,6 +5,7 @@ use mathlib.Core.List.{List}
 use Prim.Native.Nat.{ℕ, _≤_}
 use Rattle.logic.specs.Checks.{Passes}
 use Rattle.logic.specs.Book.{mostNodes, varsOf, locsOf, pathOf, formulaOf, bookFormula, Accepted}
+use Rattle.logic.specs.declared.Profile.{Profile}
 use Rattle.logic.specs.Model.{stackIn, heapIn, modelChecks, FitsBook}
 use Rattle.logic.specs.Strays.{NamedByAtom}
 use Rattle.grammar.specs.Phrase.{Phrase}
@@ -45,10 +46,11 @@ pub record Matched (s m m′ : List ℕ) : Type 0 where
   pub stack : (x : ℕ) → x ≤ varsOf s → stackIn (varsOf s) m′ (renumbered s x) ≡ stackIn (varsOf s) m x
   pub heap : heapIn (varsOf s) (locsOf s) m′ ≡ heapIn (varsOf s) (locsOf s) m
 
--- the book b has the bounds of the book s, and "a formula that holds on exactly the same models"
+-- the book b has the bounds of the book s, and "a formula that holds on exactly the same models", in both
+-- profiles
 pub record SameModels (s b : List ℕ) : Type 0 where
   pub accepted : Accepted b
   pub vars : varsOf b ≡ varsOf s
   pub locs : locsOf b ≡ locsOf s
   pub path : pathOf b ≡ pathOf s
-  pub fits : (m m′ : List ℕ) → ModelOf s m → ModelOf s m′ → Matched s m m′ → Iff (FitsBook s m) (FitsBook b m′)
+  pub fits : (π : Profile) (m m′ : List ℕ) → ModelOf s m → ModelOf s m′ → Matched s m m′ → Iff (FitsBook π s m) (FitsBook π b m′)

@@ -2,7 +2,9 @@
 use mathlib.Core.Path.{_≡_, sym, subst}
 use mathlib.Core.Logic.{_⊎_, inl, inr, ⊎-elim}
 use Prim.Native.Nat.{ℕ, _≤_}
-use Rattle.logic.specs.Heap.{Map, Heap, Named, StronglyDisjoint, Empty}
+use Rattle.logic.specs.declared.Profile.{Profile}
+use Rattle.logic.specs.declared.Profile.the-variants.{Strong, Ordinary}
+use Rattle.logic.specs.Heap.{Map, Heap, Named, MayMeet, Disjoint, Empty}
 use Rattle.logic.specs.Formula.{Form}
 use Rattle.logic.specs.Formula.Form.{same, diff, pts, ls, conj, disj, but, neg, sep, sept}
 use Rattle.logic.specs.Holds.{Holds, Points, Segment}
@@ -35,23 +37,28 @@ iff-at P a b c d e f =
       from = λ q. subst (λ (y : ℕ). P a y) (sym f) (subst (λ (x : ℕ). P x d) (sym e) q);
     }
 
--- two stacks with the same named locations, and with the same location for each variable of s and its name's variable of t
-module _ (v n : ℕ) (s t : Map) (ν : Term → ℕ) (low : (x : ℕ) → s x ≤ n) (match : (x : ℕ) → x ≤ v → t (ν (variable x)) ≡ s x)
-    (there : (ℓ : ℕ) → Named v s ℓ → Named v t ℓ) (back : (ℓ : ℕ) → Named v t ℓ → Named v s ℓ) where
-  apart-there : (g h : Map) → StronglyDisjoint v s g h → StronglyDisjoint v t g h
-  apart-there g h d = record { alone = d .alone; named = λ ℓ a b. there ℓ (d .named ℓ a b) }
+-- where a location that is named stays named, two heaps may still meet
+may-meet : (π : Profile) (v : ℕ) (s t : Map) (ℓ : ℕ) → (Named v s ℓ → Named v t ℓ) → MayMeet π v s ℓ → MayMeet π v t ℓ
+may-meet Strong v s t ℓ f q = f q
+may-meet Ordinary v s t ℓ f q = tt
 
-  apart-back : (g h : Map) → StronglyDisjoint v t g h → StronglyDisjoint v s g h
-  apart-back g h d = record { alone = d .alone; named = λ ℓ a b. back ℓ (d .named ℓ a b) }
+-- two stacks with the same named locations, and with the same location for each variable of s and its name's variable of t
+module _ (π : Profile) (v n : ℕ) (s t : Map) (ν : Term → ℕ) (low : (x : ℕ) → s x ≤ n) (match : (x : ℕ) → x ≤ v → t (ν (variable x)) ≡ s x)
+    (there : (ℓ : ℕ) → Named v s ℓ → Named v t ℓ) (back : (ℓ : ℕ) → Named v t ℓ → Named v s ℓ) where
+  apart-there : (g h : Map) → Disjoint π v s g h → Disjoint π v t g h
+  apart-there g h d = record { alone = d .alone; meet = λ ℓ a b. may-meet π v s t ℓ (there ℓ) (d .meet ℓ a b) }
+
+  apart-back : (g h : Map) → Disjoint π v t g h → Disjoint π v s g h
+  apart-back g h d = record { alone = d .alone; meet = λ ℓ a b. may-meet π v t s ℓ (back ℓ) (d .meet ℓ a b) }
 
   -- what is said of the operands of an atom is said of their names
   at-names : (P : ℕ → ℕ → Type 0) (x y : ℕ) → (x ≤ v) × (y ≤ v) → Iff (P (t (ν (variable x))) (t (ν (variable y)))) (P (s x) (s y))
   at-names P x y w = iff-at P (t (ν (variable x))) (t (ν (variable y))) (s x) (s y) (match x (w .0)) (match y (w .1))
 
   abbrev Same : Form → Type 0
-  Same F = (h : Map) → Heap n h → Iff (Says v n ν t (phraseOf F) h) (Holds v n F s h)
+  Same F = (h : Map) → Heap n h → Iff (Says π v n ν t (phraseOf F) h) (Holds π v n F s h)
 
-  same-parts : (a b : Form) → Same a → Same b → (h : Map) → Heap n h → Iff (Says v n ν t (join sep-word (phraseOf a) (phraseOf b)) h) (Holds v n (sep a b) s h)
+  same-parts : (a b : Form) → Same a → Same b → (h : Map) → Heap n h → Iff (Says π v n ν t (join sep-word (phraseOf a) (phraseOf b)) h) (Holds π v n (sep a b) s h)
   unfolding Holds Says
   same-parts a b f g h k =
       record {
@@ -60,7 +67,7 @@ module _ (v n : ℕ) (s t : Map) (ν : Term → ℕ) (low : (x : ℕ) → s x �
       }
 
   -- a wand to a denial says that no added heap serves a septraction
-  no-added : (a b : Form) → Same a → Same b → (h : Map) → Heap n h → Iff (Says v n ν t (join wand-word (phraseOf a) (deny (phraseOf b))) h) (¬ Holds v n (sept a b) s h)
+  no-added : (a b : Form) → Same a → Same b → (h : Map) → Heap n h → Iff (Says π v n ν t (join wand-word (phraseOf a) (deny (phraseOf b))) h) (¬ Holds π v n (sept a b) s h)
   unfolding Holds Says
   no-added a b f g h k =
       record {
@@ -71,11 +78,11 @@ module _ (v n : ℕ) (s t : Map) (ν : Term → ℕ) (low : (x : ℕ) → s x �
       }
 
   -- so its denial says that one does
-  some-added : (F : Form) (h : Map) (A : Type 0) → Heap n h → Iff A (¬ Holds v n F s h) → Iff (¬ A) (Holds v n F s h)
-  some-added F h A k f = record { to = λ q. ⊎-elim (λ y. y) (λ z. absurd (q (f .from z))) (sure v n s low F h k); from = λ q a. f .to a q }
+  some-added : (F : Form) (h : Map) (A : Type 0) → Heap n h → Iff A (¬ Holds π v n F s h) → Iff (¬ A) (Holds π v n F s h)
+  some-added F h A k f = record { to = λ q. ⊎-elim (λ y. y) (λ z. absurd (q (f .from z))) (sure π v n s low F h k); from = λ q a. f .to a q }
 
   -- the text says so exactly where the formula that was written holds
-  pub round-says : (F : Form) → Within v F → (h : Map) → Heap n h → Iff (Says v n ν t (phraseOf F) h) (Holds v n F s h)
+  pub round-says : (F : Form) → Within v F → (h : Map) → Heap n h → Iff (Says π v n ν t (phraseOf F) h) (Holds π v n F s h)
   unfolding Holds Says phraseOf Within
   round-says (same x y) w h k = iff-both _ _ _ _ (at-names (λ a b. a ≡ b) x y w) (iff-self (Empty h))
   round-says (diff x y) w h k = iff-both _ _ _ _ (at-names (λ a b. ¬ (a ≡ b)) x y w) (iff-self (Empty h))
@@ -89,8 +96,8 @@ module _ (v n : ℕ) (s t : Map) (ν : Term → ℕ) (low : (x : ℕ) → s x �
   round-says (sept a b) w h k = some-added (sept a b) h _ k (no-added a b (round-says a (w .0)) (round-says b (w .1)) h k)
 
   -- and the formula that is read holds exactly there
-  pub round : ((x : ℕ) → t x ≤ n) → (F : Form) → Within v F → (h : Map) → Heap n h → Iff (Holds v n (formOf ν (phraseOf F)) t h) (Holds v n F s h)
+  pub round : ((x : ℕ) → t x ≤ n) → (F : Form) → Within v F → (h : Map) → Heap n h → Iff (Holds π v n (formOf ν (phraseOf F)) t h) (Holds π v n F s h)
   round low′ F w h k =
-      let a = says-holds v n ν t low′ (phraseOf F) h k in
+      let a = says-holds π v n ν t low′ (phraseOf F) h k in
       let b = round-says F w h k in
       record { to = λ q. b .to (a .from q); from = λ q. a .to (b .from q) }

@@ -9,6 +9,7 @@ use Rattle.logic.specs.Heap.{Map, Named}
 use Rattle.logic.specs.Book.{varsOf, locsOf, pathOf, bookFormula, Accepted, Whole}
 use Rattle.logic.specs.BookLaws.{accepted-whole}
 use Rattle.logic.specs.Paths.{NoLongPath}
+use Rattle.logic.specs.declared.Profile.{Profile}
 use Rattle.logic.specs.Model.{stackIn, heapIn, Fits, FitsBook}
 use Rattle.logic.specs.ModelLaws.{model-stack, model-heap}
 use Rattle.grammar.specs.Meaning.{namesOf, numberOf, meaning}
@@ -49,10 +50,10 @@ module _ (s : List ℕ) (accepted : Accepted s) where
       again = book-imported (textOf s) (phraseIn s) text-good (locsOf s) (pathOf s) (book .bounds .locs) (book .bounds .path)
 
       -- the book again has the same bounds, and its formula is what the text means
-      fits-again : (m : List ℕ) → FitsBook (bookAgain s) m ≡ Fits (varsOf s) (locsOf s) (pathOf s) (meaning (phraseIn s)) (stackIn (varsOf s) m) (heapIn (varsOf s) (locsOf s) m)
-      fits-again m = rw (again .vars, again .locs, again .path, again .formula, same-vars) refl
+      fits-again : (π : Profile) (m : List ℕ) → FitsBook π (bookAgain s) m ≡ Fits π (varsOf s) (locsOf s) (pathOf s) (meaning (phraseIn s)) (stackIn (varsOf s) m) (heapIn (varsOf s) (locsOf s) m)
+      fits-again π m = rw (again .vars, again .locs, again .path, again .formula, same-vars) refl
 
-    module _ (m m′ : List ℕ) (ok : ModelOf s m) (ok′ : ModelOf s m′) (q : Matched s m m′) where
+    module _ (π : Profile) (m m′ : List ℕ) (ok : ModelOf s m) (ok′ : ModelOf s m′) (q : Matched s m m′) where
       abbrev S : Map
       S = stackIn (varsOf s) m
 
@@ -67,22 +68,22 @@ module _ (s : List ℕ) (accepted : Accepted s) where
           let x = number-onto (varsOf s) (bookFormula s) (formula-within s accepted) names-in (u .0) (u .1) in
           (x .0, x .1, sym (q .stack (x .0) (x .1)) ∙ ap T (x .2) ∙ u .2)
 
-      same-truth : Iff (Fits (varsOf s) (locsOf s) (pathOf s) (meaning (phraseIn s)) T (heapIn (varsOf s) (locsOf s) m)) (FitsBook s m)
+      same-truth : Iff (Fits π (varsOf s) (locsOf s) (pathOf s) (meaning (phraseIn s)) T (heapIn (varsOf s) (locsOf s) m)) (FitsBook π s m)
       same-truth =
           iff-both _ _ _ _
-          (round (varsOf s) (locsOf s) S T (numberOf (namesOf (phraseIn s))) (model-stack (varsOf s) (locsOf s) m ok .low) (q .stack) named-there named-back
+          (round π (varsOf s) (locsOf s) S T (numberOf (namesOf (phraseIn s))) (model-stack (varsOf s) (locsOf s) m ok .low) (q .stack) named-there named-back
           (model-stack (varsOf s) (locsOf s) m′ ok′ .low) (bookFormula s) (formula-within s accepted) (heapIn (varsOf s) (locsOf s) m) (model-heap (varsOf s) (locsOf s) m ok))
           (iff-self (NoLongPath (pathOf s) (heapIn (varsOf s) (locsOf s) m)))
 
-      same-models : FitsText s → Iff (FitsBook s m) (FitsBook (bookAgain s) m′)
+      same-models : FitsText s → Iff (FitsBook π s m) (FitsBook π (bookAgain s) m′)
       same-models fits =
-          let e = ap (Fits (varsOf s) (locsOf s) (pathOf s) (meaning (phraseIn s)) T) (q .heap) in
-          let i = fits-again fits m′ ∙ e in
+          let e = ap (Fits π (varsOf s) (locsOf s) (pathOf s) (meaning (phraseIn s)) T) (q .heap) in
+          let i = fits-again fits π m′ ∙ e in
           record { to = λ u. subst (λ (A : Type 0). A) (sym i) (same-truth .from u); from = λ u. same-truth .to (subst (λ (A : Type 0). A) i u) }
 
--- the request's sentence: the text is read as the formula that was written, over as many variables, and a model fits the one book
--- exactly if the model that is matched by name fits the other
+-- the request's sentence: the text is read as the formula that was written, over as many variables, and in both profiles a model
+-- fits the one book exactly if the model that is matched by name fits the other
 pub round-trip : (s : List ℕ) → Accepted s → AllNamed s → FitsText s
     → Good (textOf s) (phraseIn s) × (length (namesOf (phraseIn s)) ≡ varsOf s)
-    × ((m m′ : List ℕ) → ModelOf s m → ModelOf s m′ → Matched s m m′ → Iff (FitsBook s m) (FitsBook (bookAgain s) m′))
-round-trip s a all fits = (text-good s a all fits, same-vars s a all, λ m m′ ok ok′ q. same-models s a all m m′ ok ok′ q fits)
+    × ((π : Profile) (m m′ : List ℕ) → ModelOf s m → ModelOf s m′ → Matched s m m′ → Iff (FitsBook π s m) (FitsBook π (bookAgain s) m′))
+round-trip s a all fits = (text-good s a all fits, same-vars s a all, λ π m m′ ok ok′ q. same-models s a all π m m′ ok ok′ q fits)

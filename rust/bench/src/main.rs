@@ -1,6 +1,6 @@
 //! Books read and encoded, models and assignments judged, candidates searched, text read and text written a second, by the proved
-//! bench and by the second one, in one run; how a search's time grows with its budget, and an import's with its text; and how
-//! much stack the proved judge, the proved import and the proved export take.
+//! bench and by the second one, in one run; judge and search in both profiles; how a search's time grows with its budget, and an
+//! import's with its text; and how much stack the proved judge, the proved import and the proved export take.
 //!
 //! Both are given the same bytes, book and model anew for each call; there are no buffers to clear.
 //! No model fits any of the formulas, so each is judged to the end. `bench PART` runs one part alone.
@@ -10,6 +10,7 @@ use std::time::Instant;
 
 use cases::made::book;
 
+mod profiles;
 mod stack;
 mod texts;
 mod written;
@@ -64,10 +65,11 @@ const NESTED: [(&str, u8); 3] = [("¬", 8), ("*", 9), ("−⊛", 10)];
 const SEARCHES: [(u8, u64); 4] = [(1, 200_000), (6, 3_000_000), (6, 3_000_000), (6, 20_000)];
 
 /// The parts, by the word that asks for one alone.
-const PARTS: [(&str, fn()); 9] = [
+const PARTS: [(&str, fn()); 10] = [
     ("read", read),
     ("judge", judged),
     ("search", searched),
+    ("profile", profiles::compare),
     ("encode", encoded),
     ("text", texts::read),
     ("export", written::write),
@@ -133,10 +135,7 @@ fn searched() {
         "formula", "v, budget", "proved", "second", "ratio"
     );
     for ((name, nodes), (v, budget)) in FORMULAS.into_iter().zip(SEARCHES) {
-        let book = match v {
-            1 => book([1, 6, 6], nodes),
-            _ => book(BOUNDS, &with_names(nodes)),
-        };
+        let book = search_book(v, nodes);
         let mut fastest = [f64::INFINITY; 2];
         for _ in 0..RUNS {
             fastest[0] = search_time(&book, budget, |b, k, o| hollyspool::search(b, k, o).number)
@@ -156,6 +155,14 @@ fn searched() {
             print!(" {taken:.3}");
         }
         println!();
+    }
+}
+
+/// The book of a search.
+fn search_book(v: u8, nodes: &[[u8; 3]]) -> Vec<u8> {
+    match v {
+        1 => book([1, 6, 6], nodes),
+        _ => book(BOUNDS, &with_names(nodes)),
     }
 }
 

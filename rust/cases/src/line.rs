@@ -42,6 +42,8 @@ pub struct Case {
     /// The file and line, for messages.
     pub source: String,
     pub call: Call,
+    /// Whether it is in the ordinary profile, and not in the strong one.
+    pub ordinary: bool,
     /// The book or, for an import, the text.
     pub book: Vec<u8>,
     /// The model, the assignment, or the bounds n and p.
@@ -68,7 +70,7 @@ pub fn all() -> Vec<Case> {
     fixed.chain(random).chain(next).collect()
 }
 
-/// The lines about one call.
+/// The lines about one call, in either profile.
 pub fn about(call: Call) -> Vec<Case> {
     let mut cases = all();
     cases.retain(|case| case.call == call);
@@ -88,9 +90,11 @@ fn parse(source: &str, line: &str) -> Option<Case> {
     let [call, book, arg, budget, room, "=>", number, place, tried, out] = words[..] else {
         return None;
     };
+    let in_ordinary = call.strip_suffix(":ordinary");
     Some(Case {
         source: source.to_owned(),
-        call: call_named(call)?,
+        call: call_named(in_ordinary.unwrap_or(call))?,
+        ordinary: in_ordinary.is_some(),
         book: bytes(book)?,
         arg: bytes(arg)?,
         number: budget.parse().ok()?,

@@ -14,6 +14,9 @@ const VISITS: u64 = 3_000;
 /// All operators, those that make strong disjointness matter more often.
 const OPERATORS: [u8; 14] = [1, 2, 3, 3, 4, 4, 5, 6, 7, 8, 9, 9, 10, 10];
 
+/// The operators of the parts of a book that tells the profiles apart.
+const SEPARATING: [u8; 8] = [1, 1, 3, 4, 5, 8, 9, 10];
+
 /// Where books come from.
 pub struct Books {
     /// The books of the case files, accepted or not.
@@ -37,6 +40,7 @@ impl Books {
             1 => loose_nodes(random),
             2..=4 => self.known[random.below(self.known.len())].clone(),
             5 => return wrong_contents(random),
+            6..=8 => separated(random),
             _ => made(random),
         };
         if random.below(3) == 0 {
@@ -66,6 +70,30 @@ fn made(random: &mut Random) -> Vec<u8> {
         bounds[0] = name_all(random, &mut nodes, bounds[0]);
     }
     made::book(bounds, &nodes)
+}
+
+/// A book that is accepted, with few names and an operator 9 or 10 over two negations, at times under a
+/// third.
+fn separated(random: &mut Random) -> Vec<u8> {
+    let (most, n) = (random.one_of(&[0, 0, 1, 2]), 2 + random.up_to(1));
+    let mut nodes: Vec<[u8; 3]> = Vec::new();
+    let sides = [(); 2].map(|()| {
+        let (from, count) = (nodes.len() as u8, 1 + random.below(4));
+        let side = tree(random, most, count, &SEPARATING);
+        nodes.extend(side.iter().map(|&[operator, a, b]| match operator {
+            1..=4 => [operator, a, b],
+            8 => [operator, a + from, 0],
+            _ => [operator, a + from, b + from],
+        }));
+        nodes.push([8, nodes.len() as u8 - 1, 0]);
+        nodes.len() as u8 - 1
+    });
+    nodes.push([random.one_of(&[9, 9, 10]), sides[0], sides[1]]);
+    if random.below(4) == 0 {
+        nodes.push([8, nodes.len() as u8 - 1, 0]);
+    }
+    let v = name_all(random, &mut nodes, most);
+    made::book([v, n, n], &nodes)
 }
 
 /// A book that is accepted but for one byte of its contents.

@@ -1,13 +1,30 @@
-//! Every call on one input, both benches.
+//! Every call on one input, both benches, in both profiles.
 
-use hollyspool::Answer;
+use hollyspool::{Answer, Profile};
 use second::book::Book;
 use second::model::Model;
+use second::profile::Profile as Second;
 
 use crate::guarded::Guarded;
 use crate::input::{Input, Text};
 use crate::round_trip::{round_trip, Reading};
 use crate::tally::{Call, Tally};
+
+/// Each profile, as both benches have it.
+const PROFILES: [(Profile, Second); 2] = [
+    (Profile::Strong, Second::Strong),
+    (Profile::Ordinary, Second::Ordinary),
+];
+
+/// What was answered in a profile.
+#[derive(Debug, PartialEq, Eq)]
+struct Answers {
+    judged: Answer,
+    assigned: Answer,
+    searched: Answer,
+    /// The model that a search found.
+    found: Option<Vec<u8>>,
+}
 
 /// Makes all calls, or says what differs.
 pub fn all(input: &Input, tally: &mut Tally) -> Result<(), String> {
@@ -15,17 +32,56 @@ pub fn all(input: &Input, tally: &mut Tally) -> Result<(), String> {
     let (proved, second) = (hollyspool::read(book), second::book::read(book));
     same(tally, Call::Read, proved, second)?;
     body(book, input.entry)?;
-    let proved = hollyspool::judge(book, &input.model);
-    let second = second::judge::judge(book, &input.model);
-    same(tally, Call::Judge, proved, second)?;
-    let proved = hollyspool::assign(book, &input.assignment);
-    let second = second::assign::assign(book, &input.assignment);
-    same(tally, Call::Assign, proved, second)?;
-    let found = search(input, tally)?;
-    encode(input, tally)?;
+    let [strong, ordinary] = PROFILES;
+    let strong = in_profile(input, strong, tally)?;
+    let ordinary = in_profile(input, ordinary, tally)?;
+    alike(book, &strong, &ordinary, tally)?;
     export(input, tally)?;
-    read_back(input, found, tally)?;
+    read_back(input, [strong.found, ordinary.found], tally)?;
     import(&input.text, tally)
+}
+
+/// Makes the calls that a profile matters to.
+fn in_profile(
+    input: &Input,
+    profiles: (Profile, Second),
+    tally: &mut Tally,
+) -> Result<Answers, String> {
+    let (book, (profile, other)) = (&input.book, profiles);
+    let judged = hollyspool::judge_in(profile, book, &input.model);
+    let second = second::judge::judge_in(other, book, &input.model);
+    same(tally, Call::Judge(profile), judged, second)?;
+    let assigned = hollyspool::assign_in(profile, book, &input.assignment);
+    let second = second::assign::assign_in(other, book, &input.assignment);
+    same(tally, Call::Assign(profile), assigned, second)?;
+    let (searched, found) = search(input, profiles, tally)?;
+    encode(input, profiles, tally)?;
+    Ok(Answers {
+        judged,
+        assigned,
+        searched,
+        found,
+    })
+}
+
+/// Where an accepted book has no operator 8, both profiles answer the same.
+fn alike(
+    book: &[u8],
+    strong: &Answers,
+    ordinary: &Answers,
+    tally: &mut Tally,
+) -> Result<(), String> {
+    let negated = Book::accept(book).is_ok_and(|book| book.nodes.iter().any(|node| node[0] == 8));
+    match strong == ordinary {
+        true => tally.alike[usize::from(negated)] += 1,
+        false if negated => tally.apart += 1,
+        false => {
+            return Err(format!(
+            "without operator 8 the strong profile gives {strong:?}, the ordinary one {ordinary:?}"
+        ))
+        }
+    }
+    Ok(())
 }
 
 /// Compares two answers, and counts them if they are the same.
@@ -47,32 +103,40 @@ fn same(
 }
 
 /// The search, and the model that it finds; the judge accepts it.
-fn search(input: &Input, tally: &mut Tally) -> Result<Option<Vec<u8>>, String> {
-    let book = &input.book;
+fn search(
+    input: &Input,
+    (profile, other): (Profile, Second),
+    tally: &mut Tally,
+) -> Result<(Answer, Option<Vec<u8>>), String> {
+    let (book, call) = (&input.book, Call::Search(profile));
     let [mut proved, mut second] = [(); 2].map(|()| Guarded::new(input.model_room));
-    let found = hollyspool::search(book, input.budget, proved.out());
-    let expected = second::search::search(book, input.budget, second.out());
-    same(tally, Call::Search, found, expected)?;
+    let found = hollyspool::search_in(profile, book, input.budget, proved.out());
+    let expected = second::search::search_in(other, book, input.budget, second.out());
+    same(tally, call, found, expected)?;
     let length = Book::accept(book).map_or(0, |book| book.bounds.v + book.bounds.n);
-    outputs(Call::Search, found, length, &mut proved, &mut second)?;
+    outputs(call, found, length, &mut proved, &mut second)?;
     if found.number != 0 {
-        return Ok(None);
+        return Ok((found, None));
     }
     let model = proved.out()[..length].to_vec();
-    let judged = hollyspool::judge(book, &model);
+    let judged = hollyspool::judge_in(profile, book, &model);
     let fits = second::answer::Answer::yes_or_no(true);
-    same(tally, Call::Judge, judged, fits)?;
-    Ok(Some(model))
+    same(tally, Call::Judge(profile), judged, fits)?;
+    Ok((found, Some(model)))
 }
 
-fn encode(input: &Input, tally: &mut Tally) -> Result<(), String> {
-    let book = &input.book;
+fn encode(
+    input: &Input,
+    (profile, other): (Profile, Second),
+    tally: &mut Tally,
+) -> Result<(), String> {
+    let (book, call) = (&input.book, Call::Encode(profile));
     let [mut proved, mut second] = [(); 2].map(|()| Guarded::new(input.encoding_room));
-    let encoded = hollyspool::encode(book, proved.out());
-    let expected = second::encode::encode(book, second.out());
-    same(tally, Call::Encode, encoded, expected)?;
+    let encoded = hollyspool::encode_in(profile, book, proved.out());
+    let expected = second::encode::encode_in(other, book, second.out());
+    same(tally, call, encoded, expected)?;
     let length = stated(second.out());
-    outputs(Call::Encode, encoded, length, &mut proved, &mut second)
+    outputs(call, encoded, length, &mut proved, &mut second)
 }
 
 fn export(input: &Input, tally: &mut Tally) -> Result<(), String> {
@@ -85,9 +149,9 @@ fn export(input: &Input, tally: &mut Tally) -> Result<(), String> {
     outputs(Call::Export, exported, length, &mut proved, &mut second)
 }
 
-/// The book of an accepted book's text holds on the same models: on the input's, if it is in range,
-/// and on the one that a search found.
-fn read_back(input: &Input, found: Option<Vec<u8>>, tally: &mut Tally) -> Result<(), String> {
+/// The book of an accepted book's text holds on the same models, in each profile: on the input's, if it
+/// is in range, and on the one that a search found there.
+fn read_back(input: &Input, found: [Option<Vec<u8>>; 2], tally: &mut Tally) -> Result<(), String> {
     let Ok(book) = Book::accept(&input.book) else {
         return Ok(());
     };
@@ -104,9 +168,11 @@ fn read_back(input: &Input, found: Option<Vec<u8>>, tally: &mut Tally) -> Result
     };
     tally.read_back += 1;
     let given = Model::accept(book.bounds, &input.model).map(|_| input.model.clone());
-    for model in given.into_iter().chain(found) {
-        let fits = back.fits(&input.book, &model)?;
-        tally.matched[usize::from(fits)] += 1;
+    for (profile, found) in Profile::ALL.into_iter().zip(found) {
+        for model in given.iter().chain(&found) {
+            let fits = back.fits(profile, &input.book, model)?;
+            tally.matched[usize::from(fits)] += 1;
+        }
     }
     Ok(())
 }

@@ -6,6 +6,7 @@ use cases::random::Random;
 use hollyspool::MOST_TEXT;
 use second::book::{Book, Bounds, BOUNDS, CONTENTS, LONGEST, MOST};
 use second::candidate::count;
+use second::profile::Profile;
 use second::rows::Table;
 use second::write;
 
@@ -96,7 +97,9 @@ impl Input {
         let accepted = Book::accept(&book).ok();
         let bounds = accepted.map_or_else(|| any_bounds(random), |book| book.bounds);
         let length = accepted.map_or(MOST_TEXT, |book| write::text(&book).len());
-        let table = accepted.and_then(|book| Table::of(&book).ok());
+        // The arrays and sets are the same in both profiles, the rows are not.
+        let profile = random.one_of(&Profile::ALL);
+        let table = accepted.and_then(|book| Table::of(profile, &book).ok());
         let (arrays, sets, rows) = table.map_or((1, 1, 1), |table| {
             (table.arrays.into(), table.sets.into(), table.rows.len())
         });
@@ -119,13 +122,16 @@ fn any_bounds(random: &mut Random) -> Bounds {
     Bounds { v, n, p }
 }
 
-/// A model, in range more often than not.
+/// A model, in range more often than not; in a third of them most cells share a value, so that parts
+/// meet.
 fn model(random: &mut Random, bounds: Bounds) -> Vec<u8> {
     let n = bounds.n as u8;
     let mut model: Vec<u8> = (0..bounds.v).map(|_| random.up_to(n)).collect();
-    model.extend((0..n).map(|_| match random.up_to(n + 1) {
-        0 => 255,
-        digit => digit - 1,
+    let shared = (random.below(3) == 0).then(|| random.up_to(n));
+    model.extend((0..n).map(|_| match (shared, random.up_to(n + 1)) {
+        (Some(value), _) if random.below(3) > 0 => value,
+        (_, 0) => 255,
+        (_, digit) => digit - 1,
     }));
     damaged_at_times(random, model)
 }

@@ -1,7 +1,7 @@
 //! A book, written as a text, and that text read back.
 
 use cases::made::tame;
-use hollyspool::{export, import, judge, MOST_BOOK, MOST_TEXT};
+use hollyspool::{export, import, judge_in, Profile, MOST_BOOK, MOST_TEXT};
 use second::book::{Book, BOUNDS, CONTENTS, MOST_NODES};
 
 /// The deepest list of a text that is read.
@@ -71,16 +71,17 @@ pub fn round_trip(book: &Book, bytes: &[u8]) -> Result<Reading, String> {
 impl Back {
     /// Judges a model that is in range, each name having its variable's location: whether it fits,
     /// or what differs.
-    pub fn fits(&self, bytes: &[u8], model: &[u8]) -> Result<bool, String> {
+    pub fn fits(&self, profile: Profile, bytes: &[u8], model: &[u8]) -> Result<bool, String> {
         let mut matched = model.to_vec();
         for (name, variable) in self.order.iter().enumerate() {
             matched[name] = model[variable - 1];
         }
-        let [one, other] = [judge(bytes, model), judge(&self.book, &matched)];
+        let one = judge_in(profile, bytes, model);
+        let other = judge_in(profile, &self.book, &matched);
         match one == other {
             true => Ok(one.number == 0),
             false => Err(format!(
-                "on {model:?} it gives {one:?}, and read back, on {matched:?}, {other:?}"
+                "on {model:?} it gives {one:?}, and read back, on {matched:?}, {other:?}, in {profile:?}"
             )),
         }
     }

@@ -1,5 +1,5 @@
-//! A short run: no difference; every call gives every number that it can give, and no other; and few
-//! searches end at a stray variable.
+//! A short run: no difference; every call gives every number that it can give, in each profile, and no
+//! other; few searches end at a stray variable; and the profiles are told apart.
 
 use std::process::Command;
 
@@ -7,15 +7,24 @@ use std::process::Command;
 const BOOK: [u64; 9] = [10, 11, 12, 13, 14, 15, 16, 23, 24];
 
 /// The calls in the order of the tally: whether it is on a book, and the other numbers it gives.
-const CALLS: [(&str, bool, &[u64]); 7] = [
+const CALLS: [(&str, bool, &[u64]); 11] = [
     ("read", true, &[0]),
-    ("judge", true, &[0, 1, 17, 18]),
-    ("search", true, &[0, 1, 2, 20, 25]),
-    ("encode", true, &[0, 19, 20]),
-    ("assign", true, &[0, 1, 19, 21, 22]),
     ("import", false, &[0, 12, 20, 26, 27, 28]),
     ("export", true, &[0, 20]),
+    ("judge", true, JUDGE),
+    ("judge, ordinary", true, JUDGE),
+    ("search", true, SEARCH),
+    ("search, ordinary", true, SEARCH),
+    ("encode", true, ENCODE),
+    ("encode, ordinary", true, ENCODE),
+    ("assign", true, ASSIGN),
+    ("assign, ordinary", true, ASSIGN),
 ];
+
+const JUDGE: &[u64] = &[0, 1, 17, 18];
+const SEARCH: &[u64] = &[0, 1, 2, 20, 25];
+const ENCODE: &[u64] = &[0, 19, 20];
+const ASSIGN: &[u64] = &[0, 1, 19, 21, 22];
 
 #[test]
 fn no_difference() {
@@ -26,7 +35,8 @@ fn no_difference() {
     let errors = String::from_utf8_lossy(&run.stderr);
     assert!(run.status.success(), "{errors}");
     let text = String::from_utf8_lossy(&run.stdout);
-    let (table, texts) = text.trim_end().rsplit_once('\n').expect("lines");
+    let (rest, texts) = text.trim_end().rsplit_once('\n').expect("lines");
+    let (table, profiles) = rest.rsplit_once('\n').expect("lines");
     let rows = table.lines().skip(2).map(|line| {
         let words = line.split_whitespace();
         words.map(|word| word.parse().expect("a count")).collect()
@@ -42,21 +52,34 @@ fn no_difference() {
     }
     let searches = |numbers: &[u64]| -> u64 {
         let rows = rows.iter().filter(|row| numbers.contains(&row[0]));
-        rows.map(|row| row[3]).sum()
+        rows.map(|row| row[6] + row[7]).sum()
     };
     assert!(searches(&[0, 1, 2]) > 5 * searches(&[25]));
+    told_apart(profiles);
     read_back(texts);
+}
+
+/// The profiles answer inputs of all three kinds: alike without operator 8 and with it, and apart.
+fn told_apart(line: &str) {
+    let [without, 8, with, apart] = counts(line)[..] else {
+        panic!("not three counts and operator 8: {line}");
+    };
+    assert!(without > 1_000 && with > 1_000 && apart > 50, "{line}");
 }
 
 /// Most texts of books are read back, and models of both kinds compared.
 fn read_back(line: &str) {
-    let words = line.split(|c: char| !c.is_ascii_digit());
-    let counts: Vec<u64> = words.filter_map(|word| word.parse().ok()).collect();
-    let [read, not, fit, misfit] = counts[..] else {
+    let [read, not, fit, misfit] = counts(line)[..] else {
         panic!("not four counts: {line}");
     };
     assert!(read > 5 * not && not > 100, "{line}");
     assert!(fit > 1_000 && misfit > 1_000, "{line}");
+}
+
+/// The numbers that stand in a line.
+fn counts(line: &str) -> Vec<u64> {
+    let words = line.split(|c: char| !c.is_ascii_digit());
+    words.filter_map(|word| word.parse().ok()).collect()
 }
 
 #[test]

@@ -1,7 +1,9 @@
-//! The eight calls. Nothing is checked on this side: the archive takes any bytes.
+//! The eight calls, four of them in either profile. Nothing is checked on this side: the archive takes
+//! any bytes.
 
 use crate::answer::Answer;
 use crate::ffi;
+use crate::profile::Profile;
 
 /// The most bytes that an encoding has; an output of this length is never too short for one.
 pub const MOST_ENCODED: usize = 6374;
@@ -41,7 +43,7 @@ pub fn body(book: &[u8], entry: u64) -> &[u8] {
     &book[stretch.start as usize..][..stretch.length as usize]
 }
 
-/// Says whether the model fits the book's formula.
+/// Says whether the model fits the book's formula, separation being strong.
 ///
 /// ```
 /// let p1 = [2, 1, 11, 0, 3, 0, 2, 14, 0, 3, 0, 1, 1, 1, 3, 1, 1];
@@ -49,13 +51,33 @@ pub fn body(book: &[u8], entry: u64) -> &[u8] {
 /// assert_eq!(hollyspool::judge(&p1, &[1, 255]).number, 1);
 /// ```
 pub fn judge(book: &[u8], model: &[u8]) -> Answer {
-    // SAFETY: as for `read`, for each of the two slices.
-    unsafe { ffi::hollyspool_judge(book.as_ptr(), book.len(), model.as_ptr(), model.len()) }
+    judge_in(Profile::Strong, book, model)
 }
 
-/// Looks for the lowest candidate that fits, and writes it if its number is below the budget. The
-/// output needs v + n bytes; the rest of it stays as it was. Alone of all calls it refuses a book
-/// with a declared variable that no atom names ([`Book::stray`](crate::Book::stray)).
+/// [`judge`] in a profile.
+///
+/// ```
+/// use hollyspool::{judge_in, Book, Profile};
+///
+/// let (book, _) = Book::parse("(sep (not sep.emp) (not sep.emp))", 2, 2)?;
+/// // Cell 1 holds 2, which no variable names, and cell 2 holds nil.
+/// assert_eq!(judge_in(Profile::Strong, book.bytes(), &[2, 0]).number, 1);
+/// assert_eq!(judge_in(Profile::Ordinary, book.bytes(), &[2, 0]).number, 0);
+/// # Ok::<(), hollyspool::Refusal>(())
+/// ```
+pub fn judge_in(profile: Profile, book: &[u8], model: &[u8]) -> Answer {
+    let call = match profile {
+        Profile::Strong => ffi::hollyspool_judge,
+        Profile::Ordinary => ffi::hollyspool_judge_ordinary,
+    };
+    // SAFETY: as for `read`, for each of the two slices.
+    unsafe { call(book.as_ptr(), book.len(), model.as_ptr(), model.len()) }
+}
+
+/// Looks for the lowest candidate that fits, separation being strong, and writes it if its number is
+/// below the budget. The output needs v + n bytes; the rest of it stays as it was. Alone of all calls
+/// it refuses a book with a declared variable that no atom names
+/// ([`Book::stray`](crate::Book::stray)).
 ///
 /// ```
 /// let p1 = [2, 1, 11, 0, 3, 0, 2, 14, 0, 3, 0, 1, 1, 1, 3, 1, 1];
@@ -66,13 +88,36 @@ pub fn judge(book: &[u8], model: &[u8]) -> Answer {
 /// assert_eq!(out, [1, 1, 7]);
 /// ```
 pub fn search(book: &[u8], budget: u64, out: &mut [u8]) -> Answer {
-    let (to, room) = (out.as_mut_ptr(), out.len());
-    // SAFETY: as for `read`; the output is one live slice that nothing else refers to.
-    unsafe { ffi::hollyspool_search(book.as_ptr(), book.len(), budget, to, room) }
+    search_in(Profile::Strong, book, budget, out)
 }
 
-/// Writes the encoding of the book's formula, as a book; the rest of the output stays as it was.
-/// The encoding's own contents say how long it is.
+/// [`search`] in a profile.
+///
+/// ```
+/// use hollyspool::{search_in, Book, Profile};
+///
+/// // A list of over one link, in which no two parts have cells.
+/// let whole = "(and (and (ls x sep.nil) (not (pto x sep.nil))) \
+///              (and (not sep.emp) (not (sep (not sep.emp) (not sep.emp)))))";
+/// let (book, _) = Book::parse(whole, 2, 2)?;
+/// let mut out = [7; 3];
+/// assert_eq!(search_in(Profile::Ordinary, book.bytes(), u64::MAX, &mut out).number, 1);
+/// assert_eq!(search_in(Profile::Strong, book.bytes(), u64::MAX, &mut out).number, 0);
+/// assert_eq!(out, [1, 2, 0]);
+/// # Ok::<(), hollyspool::Refusal>(())
+/// ```
+pub fn search_in(profile: Profile, book: &[u8], budget: u64, out: &mut [u8]) -> Answer {
+    let call = match profile {
+        Profile::Strong => ffi::hollyspool_search,
+        Profile::Ordinary => ffi::hollyspool_search_ordinary,
+    };
+    let (to, room) = (out.as_mut_ptr(), out.len());
+    // SAFETY: as for `read`; the output is one live slice that nothing else refers to.
+    unsafe { call(book.as_ptr(), book.len(), budget, to, room) }
+}
+
+/// Writes the encoding of the book's formula, separation being strong, as a book; the rest of the
+/// output stays as it was. The encoding's own contents say how long it is.
 ///
 /// ```
 /// let p1 = [2, 1, 11, 0, 3, 0, 2, 14, 0, 3, 0, 1, 1, 1, 3, 1, 1];
@@ -81,12 +126,35 @@ pub fn search(book: &[u8], budget: u64, out: &mut [u8]) -> Answer {
 /// assert_eq!(out[14..24], [4, 0, 0, 0, 1, 0, 0, 0, 0, 0]);
 /// ```
 pub fn encode(book: &[u8], out: &mut [u8]) -> Answer {
-    let (to, room) = (out.as_mut_ptr(), out.len());
-    // SAFETY: as for `search`.
-    unsafe { ffi::hollyspool_encode(book.as_ptr(), book.len(), to, room) }
+    encode_in(Profile::Strong, book, out)
 }
 
-/// Says whether the assignment satisfies the rows that the encoder gives for the book.
+/// [`encode`] in a profile: the ordinary one has no APART rows, nor the AND after each. The bytes don't
+/// say which profile they are of.
+///
+/// ```
+/// use hollyspool::{encode_in, Book, Profile, MOST_ENCODED};
+///
+/// let (book, _) = Book::parse("(sep (pto x sep.nil) (pto y sep.nil))", 2, 2)?;
+/// let rows = Profile::ALL.map(|profile| {
+///     let mut out = [0; MOST_ENCODED];
+///     assert_eq!(encode_in(profile, book.bytes(), &mut out).number, 0);
+///     out[9] / 10
+/// });
+/// assert_eq!(rows, [13, 11]);
+/// # Ok::<(), hollyspool::Refusal>(())
+/// ```
+pub fn encode_in(profile: Profile, book: &[u8], out: &mut [u8]) -> Answer {
+    let call = match profile {
+        Profile::Strong => ffi::hollyspool_encode,
+        Profile::Ordinary => ffi::hollyspool_encode_ordinary,
+    };
+    let (to, room) = (out.as_mut_ptr(), out.len());
+    // SAFETY: as for `search_in`.
+    unsafe { call(book.as_ptr(), book.len(), to, room) }
+}
+
+/// Says whether the assignment satisfies the rows that [`encode`] gives for the book.
 ///
 /// ```
 /// let p1 = [2, 1, 11, 0, 3, 0, 2, 14, 0, 3, 0, 1, 1, 1, 3, 1, 1];
@@ -94,9 +162,30 @@ pub fn encode(book: &[u8], out: &mut [u8]) -> Answer {
 /// assert_eq!(hollyspool::assign(&p1, &[1, 1, 0]).number, 1);
 /// ```
 pub fn assign(book: &[u8], assignment: &[u8]) -> Answer {
+    assign_in(Profile::Strong, book, assignment)
+}
+
+/// Says whether the assignment satisfies the rows that [`encode_in`] gives for the book in the same
+/// profile. It is the caller who knows in which profile an encoding was made.
+///
+/// ```
+/// use hollyspool::{assign_in, Book, Profile};
+///
+/// let (book, _) = Book::parse("(sep (not sep.emp) (not sep.emp))", 2, 2)?;
+/// // Array 0 holds 2 and 0; set 0 is both cells, and each of the two parts one.
+/// let assignment = [2, 0, 3, 1, 2];
+/// assert_eq!(assign_in(Profile::Strong, book.bytes(), &assignment).number, 1);
+/// assert_eq!(assign_in(Profile::Ordinary, book.bytes(), &assignment).number, 0);
+/// # Ok::<(), hollyspool::Refusal>(())
+/// ```
+pub fn assign_in(profile: Profile, book: &[u8], assignment: &[u8]) -> Answer {
+    let call = match profile {
+        Profile::Strong => ffi::hollyspool_assign,
+        Profile::Ordinary => ffi::hollyspool_assign_ordinary,
+    };
     let (from, length) = (assignment.as_ptr(), assignment.len());
-    // SAFETY: as for `judge`.
-    unsafe { ffi::hollyspool_assign(book.as_ptr(), book.len(), from, length) }
+    // SAFETY: as for `judge_in`.
+    unsafe { call(book.as_ptr(), book.len(), from, length) }
 }
 
 /// Writes the book of the formula that the text means, over n locations and with path bound p; the
@@ -112,7 +201,7 @@ pub fn assign(book: &[u8], assignment: &[u8]) -> Answer {
 /// ```
 pub fn import(text: &[u8], n: u64, p: u64, out: &mut [u8]) -> Answer {
     let (to, room) = (out.as_mut_ptr(), out.len());
-    // SAFETY: as for `search`.
+    // SAFETY: as for `search_in`.
     unsafe { ffi::hollyspool_import(text.as_ptr(), text.len(), n, p, to, room) }
 }
 
@@ -130,6 +219,6 @@ pub fn import(text: &[u8], n: u64, p: u64, out: &mut [u8]) -> Answer {
 /// ```
 pub fn export(book: &[u8], out: &mut [u8]) -> Answer {
     let (to, room) = (out.as_mut_ptr(), out.len());
-    // SAFETY: as for `search`.
+    // SAFETY: as for `search_in`.
     unsafe { ffi::hollyspool_export(book.as_ptr(), book.len(), to, room) }
 }

@@ -52,4 +52,29 @@ extern "C" {
         out: *mut u8,
         out_len: usize,
     ) -> Answer;
+    pub fn hollyspool_judge_ordinary(
+        book: *const u8,
+        book_len: usize,
+        model: *const u8,
+        model_len: usize,
+    ) -> Answer;
+    pub fn hollyspool_search_ordinary(
+        book: *const u8,
+        book_len: usize,
+        budget: u64,
+        out: *mut u8,
+        out_len: usize,
+    ) -> Answer;
+    pub fn hollyspool_encode_ordinary(
+        book: *const u8,
+        book_len: usize,
+        out: *mut u8,
+        out_len: usize,
+    ) -> Answer;
+    pub fn hollyspool_assign_ordinary(
+        book: *const u8,
+        book_len: usize,
+        assignment: *const u8,
+        assignment_len: usize,
+    ) -> Answer;
 }

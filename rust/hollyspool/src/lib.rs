@@ -1,7 +1,8 @@
 //! The proved bench, as safe Rust. Documents 01 and 02 say what each call answers; the archive that
 //! is linked here is proved to answer so.
 //!
-//! The eight calls take bytes, any bytes at all, and give an [`Answer`]. Around them stand the
+//! The eight calls take bytes, any bytes at all, and give an [`Answer`]; the four of them that a
+//! [`Profile`] matters to have a form that takes one. Around them stand the
 //! reader of texts ([`Book::parse`]), the writer of them ([`Book::text`]), a builder of books
 //! ([`Book::new`]), a way back from a book to its formula ([`Book::accept`]), and words for every
 //! refusal ([`Refusal`]).
@@ -32,16 +33,19 @@ mod formula;
 mod model;
 mod names;
 mod notation;
+mod profile;
 mod refusal;
 
 pub use answer::{Answer, Verdict};
 pub use book::{Book, Unwritable, MOST_NODES};
 pub use bounds::Bounds;
 pub use calls::{
-    assign, body, encode, export, import, judge, read, search, MOST_BOOK, MOST_ENCODED, MOST_TEXT,
+    assign, assign_in, body, encode, encode_in, export, import, judge, judge_in, read, search,
+    search_in, MOST_BOOK, MOST_ENCODED, MOST_TEXT,
 };
 pub use formula::{Formula, NIL};
 pub use model::Model;
+pub use profile::Profile;
 pub use refusal::Refusal;
 
 /// The page for newcomers, whose examples are compiled and run with those of this crate.

@@ -1,18 +1,25 @@
-//! Document 01, "The encoding": what each row means, and the judge of assignments.
+//! Document 01, "The encoding": what each row means, and the judge of assignments; and document 02,
+//! [9]: the profile.
 
 use crate::answer::{settled, Answer, Number};
 use crate::book::{Book, Bounds, MOST};
 use crate::model::{is_short, locs, named, Bytes, Set};
+use crate::profile::Profile;
 use crate::rows::{Operand, Row, Table};
 
 /// Says whether the assignment satisfies the rows that the encoder gives for the book.
 pub fn assign(book: &[u8], assignment: &[u8]) -> Answer {
-    settled(assigned(book, assignment))
+    assign_in(Profile::Strong, book, assignment)
 }
 
-fn assigned(book: &[u8], assignment: &[u8]) -> Result<Answer, Answer> {
+/// The same in a profile.
+pub fn assign_in(profile: Profile, book: &[u8], assignment: &[u8]) -> Answer {
+    settled(assigned(profile, book, assignment))
+}
+
+fn assigned(profile: Profile, book: &[u8], assignment: &[u8]) -> Result<Answer, Answer> {
     let book = Book::accept(book)?;
-    let table = Table::of(&book)?;
+    let table = Table::of(profile, &book)?;
     let assignment = Assignment::accept(book.bounds, &table, assignment)?;
     Ok(Answer::yes_or_no(assignment.satisfies(&table.rows)))
 }

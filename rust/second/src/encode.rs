@@ -1,7 +1,8 @@
-//! Document 01, "The encoding": the rows as bytes of a book.
+//! Document 01, "The encoding": the rows as bytes of a book; and document 02, [9]: the profile.
 
 use crate::answer::{settled, Answer, Number};
 use crate::book::{body, Book, BOUNDS, CONTENTS};
+use crate::profile::Profile;
 use crate::rows::{Row, Table};
 
 /// The bytes of a row.
@@ -9,12 +10,17 @@ const ROW: usize = 10;
 
 /// Writes the encoding of the book's formula, as a book.
 pub fn encode(book: &[u8], out: &mut [u8]) -> Answer {
-    settled(encoded(book, out))
+    encode_in(Profile::Strong, book, out)
 }
 
-fn encoded(book: &[u8], out: &mut [u8]) -> Result<Answer, Answer> {
+/// The same in a profile. The bytes don't say in which.
+pub fn encode_in(profile: Profile, book: &[u8], out: &mut [u8]) -> Answer {
+    settled(encoded(profile, book, out))
+}
+
+fn encoded(profile: Profile, book: &[u8], out: &mut [u8]) -> Result<Answer, Answer> {
     let accepted = Book::accept(book)?;
-    let rows = Table::of(&accepted)?.rows;
+    let rows = Table::of(profile, &accepted)?.rows;
     let head = CONTENTS + BOUNDS;
     let out = out
         .get_mut(..head + ROW * rows.len())

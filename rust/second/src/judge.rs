@@ -1,38 +1,48 @@
 //! Document 01, "When a node holds": the truth table, and the judge of models; and document 02, [4]: the
-//! path bound of a model.
+//! path bound of a model, and [9]: the profile.
 
 use crate::answer::{settled, Answer};
 use crate::book::Book;
 use crate::model::{is_short, locs, named, Bytes, Heap, Model, Set};
+use crate::profile::Profile;
 
 /// Says whether the model fits the book's formula.
 pub fn judge(book: &[u8], model: &[u8]) -> Answer {
-    settled(judged(book, model))
+    judge_in(Profile::Strong, book, model)
 }
 
-fn judged(book: &[u8], model: &[u8]) -> Result<Answer, Answer> {
+/// The same in a profile.
+pub fn judge_in(profile: Profile, book: &[u8], model: &[u8]) -> Answer {
+    settled(judged(profile, book, model))
+}
+
+fn judged(profile: Profile, book: &[u8], model: &[u8]) -> Result<Answer, Answer> {
     let book = Book::accept(book)?;
     let model = Model::accept(book.bounds, model)?;
-    Ok(Answer::yes_or_no(
-        Judge::new(&book, model.stack).fits(&model.heap),
-    ))
+    let judge = Judge::new(profile, &book, model.stack);
+    Ok(Answer::yes_or_no(judge.fits(&model.heap)))
 }
 
-/// A judge of heaps, for one book and one stack.
+/// A judge of heaps, for one profile, one book and one stack.
 pub struct Judge<'a> {
     book: &'a Book<'a>,
     stack: Bytes,
-    /// The locations at which strongly disjoint heaps may not meet.
-    unnamed: Set,
+    /// The locations at which separate heaps that share no cell may not meet all the same.
+    barred: Set,
 }
 
 impl<'a> Judge<'a> {
-    /// Works out the named locations, once for all heaps.
-    pub fn new(book: &'a Book<'a>, stack: Bytes) -> Judge<'a> {
+    /// Works out the barred locations, once for all heaps: strongly disjoint heaps meet at named
+    /// locations alone.
+    pub fn new(profile: Profile, book: &'a Book<'a>, stack: Bytes) -> Judge<'a> {
+        let barred = match profile {
+            Profile::Strong => !named(&stack, book.bounds.v),
+            Profile::Ordinary => 0,
+        };
         Judge {
             book,
             stack,
-            unnamed: !named(&stack, book.bounds.v),
+            barred,
         }
     }
 
@@ -101,12 +111,12 @@ impl<'a> Judge<'a> {
         }
     }
 
-    /// Operator 10: the added heaps, in candidate order. Cells that meet the heap at an unnamed
+    /// Operator 10: the added heaps, in candidate order. Cells that meet the heap at a barred
     /// location are left out from the start.
     fn septracts(&self, a: usize, b: usize, value: &Bytes, set: Set) -> bool {
-        let barred = self.unnamed & locs(value, set);
-        let targets = self.book.bounds.locations() & !barred;
-        let sources = self.book.bounds.cells() & !barred & !set;
+        let met = self.barred & locs(value, set);
+        let targets = self.book.bounds.locations() & !met;
+        let sources = self.book.bounds.cells() & !met & !set;
         let mut added = Heap {
             value: *value,
             allocated: 0,
@@ -123,8 +133,8 @@ impl<'a> Judge<'a> {
         }
     }
 
-    /// Strong disjointness of two sets of cells that share no cell.
+    /// Whether two sets of cells that share no cell are separate.
     fn apart(&self, value: &Bytes, one: Set, other: Set) -> bool {
-        locs(value, one) & locs(value, other) & self.unnamed == 0
+        self.barred == 0 || locs(value, one) & locs(value, other) & self.barred == 0
     }
 }

@@ -11,6 +11,7 @@ pub mod encode;
 pub mod import;
 pub mod judge;
 pub mod model;
+pub mod profile;
 pub mod rows;
 pub mod search;
 pub mod shape;

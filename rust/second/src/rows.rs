@@ -1,8 +1,9 @@
 //! Document 01, "The encoding": the rows of a formula and the symbols they speak of; and document 02,
-//! [4]: the row on the model's paths.
+//! [4]: the row on the model's paths, and [9]: the rows of the ordinary profile.
 
 use crate::answer::{Answer, Number};
 use crate::book::{Book, MOST_NODES};
+use crate::profile::Profile;
 
 /// The number of a variable, an array, a set or a row.
 pub type Operand = u16;
@@ -40,18 +41,20 @@ pub enum Row {
 
 /// The rows of a formula, and how many arrays and sets they speak of.
 pub struct Table {
+    profile: Profile,
     pub rows: Vec<Row>,
     pub arrays: u16,
     pub sets: u16,
 }
 
 impl Table {
-    /// The book's table, or number 19.
-    pub fn of(book: &Book) -> Result<Table, Answer> {
+    /// The book's table in a profile, or number 19.
+    pub fn of(profile: Profile, book: &Book) -> Result<Table, Answer> {
         if !encodable(book) {
             return Err(Answer::plain(Number::NotEncodable));
         }
         let mut table = Table {
+            profile,
             rows: Vec::new(),
             arrays: 1,
             sets: 1,
@@ -102,7 +105,7 @@ impl Table {
         let (first, second) = self.two_sets();
         let children = self.children(book, ab, array, [first, second]);
         let split = self.also(children, Row::Split(set, first, second));
-        self.also(split, Row::Apart(array, first, second))
+        self.apart(split, Row::Apart(array, first, second))
     }
 
     /// The second new set is the whole, over a new array; the node's own set is a part of it.
@@ -112,8 +115,16 @@ impl Table {
         let (added, whole) = self.two_sets();
         let children = self.children(book, ab, new_array, [added, whole]);
         let split = self.also(children, Row::Split(whole, added, set));
-        let apart = self.also(split, Row::Apart(new_array, added, set));
+        let apart = self.apart(split, Row::Apart(new_array, added, set));
         self.also(apart, Row::Same(array, new_array, set))
+    }
+
+    /// An APART row and its AND; the ordinary profile has neither.
+    fn apart(&mut self, so_far: Operand, row: Row) -> Operand {
+        match self.profile {
+            Profile::Strong => self.also(so_far, row),
+            Profile::Ordinary => so_far,
+        }
     }
 
     /// Both children, each over its own set, and their AND.

@@ -1,17 +1,24 @@
-//! Document 01, "Candidates and budget": the search; and document 02, [3]: the books it refuses.
+//! Document 01, "Candidates and budget": the search; and document 02, [3]: the books it
+//! refuses, and [9]: the profile.
 
 use crate::answer::{settled, Answer, Number};
 use crate::book::{Book, Bounds};
 use crate::candidate::count;
 use crate::judge::Judge;
 use crate::model::Model;
+use crate::profile::Profile;
 
 /// Looks for the lowest candidate that fits, and writes it if its number is below the budget.
 pub fn search(book: &[u8], budget: u64, out: &mut [u8]) -> Answer {
-    settled(searched(book, budget, out))
+    search_in(Profile::Strong, book, budget, out)
 }
 
-fn searched(book: &[u8], budget: u64, out: &mut [u8]) -> Result<Answer, Answer> {
+/// The same in a profile.
+pub fn search_in(profile: Profile, book: &[u8], budget: u64, out: &mut [u8]) -> Answer {
+    settled(searched(profile, book, budget, out))
+}
+
+fn searched(profile: Profile, book: &[u8], budget: u64, out: &mut [u8]) -> Result<Answer, Answer> {
     let book = Book::accept(book)?;
     if let Some(variable) = stray(&book) {
         return Err(Answer::at(Number::StrayVariable, variable));
@@ -21,7 +28,7 @@ fn searched(book: &[u8], budget: u64, out: &mut [u8]) -> Result<Answer, Answer> 
         .get_mut(..v + n)
         .ok_or(Answer::plain(Number::OutputShort))?;
     let total = count(book.bounds);
-    let (found, tried) = first_fit(&book, total.min(budget));
+    let (found, tried) = first_fit(profile, &book, total.min(budget));
     Ok(match found {
         Some(model) => {
             model.write(book.bounds, out);
@@ -40,12 +47,12 @@ fn stray(book: &Book) -> Option<usize> {
 }
 
 /// The first candidate that fits among the first `limit`, and how many were tried.
-fn first_fit(book: &Book, limit: u64) -> (Option<Model>, u64) {
+fn first_fit(profile: Profile, book: &Book, limit: u64) -> (Option<Model>, u64) {
     let (cells, locations) = (book.bounds.cells(), book.bounds.locations());
     let mut candidate = Model::default();
     let mut tried = 0;
     loop {
-        let judge = Judge::new(book, candidate.stack);
+        let judge = Judge::new(profile, book, candidate.stack);
         loop {
             if tried == limit {
                 return (None, tried);

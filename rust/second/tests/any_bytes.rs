@@ -1,11 +1,12 @@
 //! Every call answers whatever bytes it is given, and a refusal changes no output byte.
 
 use cases::random::Random;
-use second::assign::assign;
+use second::assign::assign_in;
 use second::book::{body, read};
-use second::encode::encode;
-use second::judge::judge;
-use second::search::search;
+use second::encode::encode_in;
+use second::judge::judge_in;
+use second::profile::Profile;
+use second::search::search_in;
 use second::shape::shape;
 use second::write::export;
 
@@ -28,10 +29,12 @@ fn refused(book: &[u8]) {
         assert_eq!(body(book, entry), 0..0);
     }
     let mut out = [0xA5; 300];
-    assert_eq!(judge(book, book), answer);
-    assert_eq!(assign(book, book), answer);
-    assert_eq!(search(book, u64::MAX, &mut out), answer);
-    assert_eq!(encode(book, &mut out), answer);
+    for profile in Profile::ALL {
+        assert_eq!(judge_in(profile, book, book), answer);
+        assert_eq!(assign_in(profile, book, book), answer);
+        assert_eq!(search_in(profile, book, u64::MAX, &mut out), answer);
+        assert_eq!(encode_in(profile, book, &mut out), answer);
+    }
     assert_eq!(export(book, &mut out), answer);
     assert_eq!(out, [0xA5; 300]);
     let printed = format!("answer {} place 0 tried 0\n", answer.number);

@@ -2,13 +2,14 @@
 
 use cases::line::{about, Call, Case, Outcome};
 use second::answer::Answer;
-use second::assign::assign;
+use second::assign::assign_in;
 use second::book::{body, read, Bounds};
-use second::encode::encode;
+use second::encode::encode_in;
 use second::import::import;
-use second::judge::judge;
+use second::judge::judge_in;
 use second::model::Model;
-use second::search::search;
+use second::profile::Profile;
+use second::search::search_in;
 use second::shape::shape;
 use second::write::export;
 
@@ -70,14 +71,15 @@ fn run(call: Call) {
 
 fn outcome(case: &Case) -> Outcome {
     let mut out = case.buffer();
+    let profile = Profile::ALL[usize::from(case.ordinary)];
     match case.call {
         Call::Read => answered(read(&case.book), out),
         Call::Body => handed_back(case),
-        Call::Judge => answered(judge(&case.book, &case.arg), out),
-        Call::Search => answered(search(&case.book, case.number, &mut out), out),
+        Call::Judge => answered(judge_in(profile, &case.book, &case.arg), out),
+        Call::Search => answered(search_in(profile, &case.book, case.number, &mut out), out),
         Call::Next => stepped(case),
-        Call::Encode => answered(encode(&case.book, &mut out), out),
-        Call::Assign => answered(assign(&case.book, &case.arg), out),
+        Call::Encode => answered(encode_in(profile, &case.book, &mut out), out),
+        Call::Assign => answered(assign_in(profile, &case.book, &case.arg), out),
         Call::Shape => Outcome::of(0, 0, 0, shape(&case.book).into_bytes()),
         Call::Import => {
             let [n, p] = [0, 1].map(|bound| case.arg[bound].into());

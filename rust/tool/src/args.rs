@@ -3,6 +3,8 @@
 use std::ffi::{OsStr, OsString};
 use std::path::Path;
 
+use hollyspool::Profile;
+
 /// What is asked.
 #[derive(Clone, Copy, PartialEq, Eq)]
 pub enum Command {
@@ -42,6 +44,11 @@ impl Command {
         }
     }
 
+    /// Whether its answer depends on the profile.
+    fn has_profile(self) -> bool {
+        !matches!(self, Command::Text | Command::Translate)
+    }
+
     /// What it needs besides the book.
     fn second(self) -> Option<&'static str> {
         match self {
@@ -62,6 +69,7 @@ pub struct Request {
     /// The model or the assignment, as hex or `@path`; spaces may have made it several arguments.
     pub bytes: Vec<OsString>,
     pub budget: u64,
+    pub profile: Profile,
     pub json: bool,
     /// The encoding's bytes in place of its rows in words.
     pub raw: bool,
@@ -123,6 +131,7 @@ fn request(command: Command, args: impl Iterator<Item = OsString>) -> Result<Req
             text,
             bytes,
             budget: options.budget,
+            profile: options.profile,
             json: options.json,
             raw: options.raw,
             whole: options.whole,
@@ -135,6 +144,7 @@ struct Options {
     plain: Vec<OsString>,
     reach: Given,
     budget: u64,
+    profile: Profile,
     json: bool,
     raw: bool,
     whole: bool,
@@ -169,6 +179,7 @@ fn options(command: Command, mut args: impl Iterator<Item = OsString>) -> Result
         plain: Vec::new(),
         reach: Given::default(),
         budget: u64::MAX,
+        profile: Profile::default(),
         json: false,
         raw: false,
         whole: false,
@@ -177,6 +188,9 @@ fn options(command: Command, mut args: impl Iterator<Item = OsString>) -> Result
         match arg.to_str() {
             Some("--budget") if matches!(command, Command::Search | Command::Draw) => {
                 options.budget = number("--budget", args.next())?;
+            }
+            Some("--profile") if command.has_profile() => {
+                options.profile = profile(args.next())?;
             }
             Some("--text") => options.reach.text = true,
             Some("--n") if command != Command::Translate => {
@@ -195,6 +209,19 @@ fn options(command: Command, mut args: impl Iterator<Item = OsString>) -> Result
         }
     }
     Ok(options)
+}
+
+/// The profile that is picked.
+fn profile(arg: Option<OsString>) -> Result<Profile, String> {
+    let arg = arg.ok_or("--profile needs strong or ordinary")?;
+    match arg.to_str() {
+        Some("strong") => Ok(Profile::Strong),
+        Some("ordinary") => Ok(Profile::Ordinary),
+        _ => Err(format!(
+            "--profile needs strong or ordinary, not {}",
+            arg.display()
+        )),
+    }
 }
 
 /// An option's number: any of 64 bits.

@@ -1,6 +1,6 @@
 //! `encode`: the rows of a formula.
 
-use hollyspool::{Refusal, MOST_ENCODED};
+use hollyspool::{Profile, Refusal, MOST_ENCODED};
 
 use crate::args::Request;
 use crate::hex;
@@ -17,7 +17,7 @@ const HINT: &str = "in a text = and distinct hold on any heap, which takes an op
 
 pub fn run(problem: &Problem, request: &Request) -> Report {
     let mut out = vec![0; MOST_ENCODED];
-    let answer = hollyspool::encode(&problem.book, &mut out);
+    let answer = hollyspool::encode_in(request.profile, &problem.book, &mut out);
     if let Err(refusal) = answer.settled() {
         let report = Report::refused(refusal, answer, request.json);
         return match refusal {
@@ -45,10 +45,10 @@ pub fn run(problem: &Problem, request: &Request) -> Report {
     Report::text(0, rows.iter().enumerate().map(line).collect())
 }
 
-/// How many rows the book's formula has; none if it can't be encoded.
-pub fn count(book: &[u8]) -> Option<usize> {
+/// How many rows the book's formula has in a profile; none if it can't be encoded.
+pub fn count(profile: Profile, book: &[u8]) -> Option<usize> {
     let mut out = vec![0; MOST_ENCODED];
-    let answer = hollyspool::encode(book, &mut out);
+    let answer = hollyspool::encode_in(profile, book, &mut out);
     (answer.number == 0).then(|| (written(&out) - HEAD) / ROW)
 }
 

@@ -1,26 +1,27 @@
 //! `explain`: what stands in a book, or why it is refused.
 
-use hollyspool::{Book, Bounds, Refusal};
+use hollyspool::{Book, Bounds, Profile, Refusal};
 
+use crate::args::Request;
 use crate::encode;
 use crate::fault::Fault;
 use crate::problem::Problem;
 use crate::report::{object, Report, REFUSED};
 use crate::text;
 
-pub fn run(problem: &Problem, json: bool) -> Report {
-    let book = &problem.book;
-    match (Book::accept(book), json) {
-        (Ok(book), false) => Report::text(0, accepted(problem, &book)),
-        (Ok(book), true) => Report::text(0, accepted_in_json(problem, &book)),
+pub fn run(problem: &Problem, request: &Request) -> Report {
+    let (book, profile) = (&problem.book, request.profile);
+    match (Book::accept(book), request.json) {
+        (Ok(book), false) => Report::text(0, accepted(problem, &book, profile)),
+        (Ok(book), true) => Report::text(0, accepted_in_json(problem, &book, profile)),
         (Err(refusal), false) => Report::text(REFUSED, refused(book, refusal)),
         (Err(refusal), true) => Report::text(REFUSED, refused_in_json(book, refusal)),
     }
 }
 
-fn accepted(problem: &Problem, book: &Book) -> String {
+fn accepted(problem: &Problem, book: &Book, profile: Profile) -> String {
     let Bounds { v, n, p } = book.bounds();
-    let rows = match encode::count(book.bytes()) {
+    let rows = match encode::count(profile, book.bytes()) {
         Some(count) => count.to_string(),
         None => format!("none: {}", Refusal::NotEncodable),
     };
@@ -56,7 +57,7 @@ fn stray(book: &Book) -> String {
     format!("stray    {names}: declared, but named by no atom; search refuses the book\n")
 }
 
-fn accepted_in_json(problem: &Problem, book: &Book) -> String {
+fn accepted_in_json(problem: &Problem, book: &Book, profile: Profile) -> String {
     let Bounds { v, n, p } = book.bounds();
     let formula = book.formula().with_names(&problem.names).to_string();
     let object = problem
@@ -69,7 +70,7 @@ fn accepted_in_json(problem: &Problem, book: &Book) -> String {
         .number("p", p.into())
         .number("total", book.bounds().candidates())
         .numbers("stray", book.stray().into_iter().map(Some));
-    match encode::count(book.bytes()) {
+    match encode::count(profile, book.bytes()) {
         Some(rows) => object.number("rows", rows as u64).line(),
         None => object.line(),
     }

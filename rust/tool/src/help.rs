@@ -22,7 +22,7 @@ hollyspool: a bounded checker for strong-separation logic whose every answer is 
   hollyspool text FILE [--file]          print the formula as a text, or as a whole SMT-LIB file
   hollyspool translate FILE              print the body that a whole SMT-LIB file becomes
 
-hollyspool COMMAND --help says more of a command.
+All but the last two take --profile strong or --profile ordinary. hollyspool COMMAND --help says more of a command.
 ";
 
 const COMMON: &str = "
@@ -32,6 +32,11 @@ look; --n N gives the number of locations besides nil (4 if it is left out), and
 links of a model's paths (n if it is left out), each up to 6. A whole SMT-LIB file, with
 (assert ..), is translated into such a text first. The text is read by a proved call; the
 translation is not proved.
+
+--profile says what sep and wand ask of two heaps. In the strong profile, which is used where none is
+given, no cell is allocated twice, and a location that stands in both is nil or a declared
+variable's: so document 003 and Astral have it. In the ordinary one no cell is allocated twice, and
+that is all: so cvc5 and the tools of SL-COMP have it.
 
 MODEL and ASSIGNMENT are hex digits, with or without spaces, or @PATH for a file of bytes. --json
 prints one JSON object on standard output, whatever the answer is; bytes are hex digits in it.
@@ -56,7 +61,7 @@ fn usage(command: Command) -> &'static str {
 }
 
 const SEARCH: &str = "\
-hollyspool search FILE [--budget N] [--json]
+hollyspool search FILE [--budget N] [--profile P] [--json]
 
 Tries the candidates in their order, the first N of them or all, and prints the lowest that fits.
 \"None\" speaks of the bounds: no model with v variables, n locations and no simple path over p links
@@ -69,32 +74,34 @@ short search of the first candidates, and the candidates tried and their share o
 ";
 
 const JUDGE: &str = "\
-hollyspool judge FILE MODEL [--json]
+hollyspool judge FILE MODEL [--profile P] [--json]
 
 A model is v bytes, each variable's location (0 to n), and then n bytes, the value at each location
 from 1 (0 to n, or ff for unallocated). The variables of a text are its names, as they first appear.
 ";
 
 const ENCODE: &str = "\
-hollyspool encode FILE [--raw] [--json]
+hollyspool encode FILE [--raw] [--profile P] [--json]
 
 Prints the rows in words, a row a line: x is a variable, A an array, S a set, r an earlier row; the
 variables of a text have its names. LONG holds where there is no simple path over k links. --raw
-prints the encoding's bytes instead.
+prints the encoding's bytes instead. In the ordinary profile there is no APART row, nor the AND
+after it; the bytes don't say which profile they are of.
 ";
 
 const ASSIGN: &str = "\
-hollyspool assign FILE ASSIGNMENT [--json]
+hollyspool assign FILE ASSIGNMENT [--profile P] [--json]
 
 An assignment is v bytes, each variable's location (0 to n), then n bytes for each array (0 to n),
 then one byte for each set (bit 0 for location 1). Encode says which arrays and sets there are.
+The rows are those that encode gives in the same profile.
 ";
 
 const EXPLAIN: &str = "\
-hollyspool explain FILE [--json]
+hollyspool explain FILE [--profile P] [--json]
 
 Prints the formula in readable notation, the bounds, T (the number of candidates), the number of
-rows of the encoding, the formula as a text, and stray variables if there are any: variables from 1
+rows of the encoding in the profile, the formula as a text, and stray variables if there are any: variables from 1
 to v that no atom names. The book is accepted all the same, but search refuses it. For a book that
 is refused: the number, what it means, the byte that it points at, what stands there and what
 should. For a text: its names with their variables, or the line and column where it is refused and
@@ -102,7 +109,7 @@ what was expected.
 ";
 
 const DRAW: &str = "\
-hollyspool draw FILE [--budget N] [--json]
+hollyspool draw FILE [--budget N] [--profile P] [--json]
 
 Searches as search does and prints the model as a digraph: a node for each location, with the
 variables that are there; nil is a box, and what is not allocated is dashed. For a picture:

@@ -55,12 +55,10 @@ fn run(request: &Request) -> Result<Report, String> {
     };
     let report = match request.command {
         Command::Search => search::run(&problem, request),
-        Command::Judge => judge::model(&problem, &input::bytes(&request.bytes)?, request.json),
+        Command::Judge => judge::model(&problem, &input::bytes(&request.bytes)?, request),
         Command::Encode => encode::run(&problem, request),
-        Command::Assign => {
-            judge::assignment(&problem, &input::bytes(&request.bytes)?, request.json)
-        }
-        Command::Explain => explain::run(&problem, request.json),
+        Command::Assign => judge::assignment(&problem, &input::bytes(&request.bytes)?, request),
+        Command::Explain => explain::run(&problem, request),
         Command::Draw => draw::run(&problem, request),
         Command::Text => text::run(&problem, request),
         Command::Translate => unreachable!("it needs no book"),

@@ -8,7 +8,7 @@ use std::sync::mpsc::{self, Sender};
 use std::thread;
 use std::time::{Duration, Instant};
 
-use hollyspool::{Answer, Book};
+use hollyspool::{Answer, Book, Profile};
 
 /// How long a search stays silent.
 const SILENT: Duration = Duration::from_secs(1);
@@ -28,12 +28,12 @@ enum News {
 }
 
 /// Searches, and gives the answer and the output.
-pub fn search(book: &Book, budget: u64) -> (Answer, Vec<u8>) {
+pub fn search(profile: Profile, book: &Book, budget: u64) -> (Answer, Vec<u8>) {
     let total = book.bounds().candidates();
     let started = Instant::now();
     let (tell, news) = mpsc::channel();
     beside(book, &tell, move |book| {
-        let (answer, out) = plain(book, budget);
+        let (answer, out) = plain(profile, book, budget);
         News::Done(answer, out)
     });
     let mut rate = None;
@@ -50,7 +50,7 @@ pub fn search(book: &Book, budget: u64) -> (Answer, Vec<u8>) {
             // Nothing new, and time for a report. `tell` is kept, so nothing else ends the wait.
             Err(_) => {
                 if next == SILENT {
-                    beside(book, &tell, |book| News::Rate(measure(book)));
+                    beside(book, &tell, move |book| News::Rate(measure(profile, book)));
                 }
                 next += next.min(LONGEST_WAIT);
             }
@@ -72,18 +72,18 @@ fn report(line: &str) {
 }
 
 /// The search alone.
-fn plain(book: &Book, budget: u64) -> (Answer, Vec<u8>) {
+fn plain(profile: Profile, book: &Book, budget: u64) -> (Answer, Vec<u8>) {
     let mut out = vec![0; book.bounds().model_length()];
-    let answer = hollyspool::search(book.bytes(), budget, &mut out);
+    let answer = hollyspool::search_in(profile, book.bytes(), budget, &mut out);
     (answer, out)
 }
 
 /// Candidates a second, over as many of the first as take long enough to say.
-fn measure(book: &Book) -> f64 {
+fn measure(profile: Profile, book: &Book) -> f64 {
     let mut budget = 1;
     loop {
         let started = Instant::now();
-        let (answer, _) = plain(book, budget);
+        let (answer, _) = plain(profile, book, budget);
         let took = started.elapsed();
         if took >= MEASURABLE || answer.tried < budget {
             return answer.tried as f64 / took.as_secs_f64();

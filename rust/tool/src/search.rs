@@ -1,6 +1,6 @@
 //! `search`: the lowest candidate that fits.
 
-use hollyspool::{Answer, Book, Bounds, Model, Verdict};
+use hollyspool::{Answer, Book, Bounds, Model, Profile, Verdict};
 
 use crate::args::Request;
 use crate::hex;
@@ -13,6 +13,7 @@ pub struct Outcome {
     pub answer: Answer,
     pub verdict: Verdict,
     pub bounds: Bounds,
+    profile: Profile,
     /// With verdict yes.
     pub model: Option<Model>,
 }
@@ -23,7 +24,7 @@ pub fn outcome(problem: &Problem, request: &Request) -> Result<Outcome, Report> 
     let accepted = Book::accept(book)
         .map_err(|refusal| Report::refused(refusal, hollyspool::read(book), request.json))?;
     let bounds = accepted.bounds();
-    let (answer, out) = progress::search(&accepted, request.budget);
+    let (answer, out) = progress::search(request.profile, &accepted, request.budget);
     let verdict = answer
         .settled()
         .map_err(|refusal| Report::refused(refusal, answer, request.json))?;
@@ -33,6 +34,7 @@ pub fn outcome(problem: &Problem, request: &Request) -> Result<Outcome, Report> 
         answer,
         verdict,
         bounds,
+        profile: request.profile,
         model,
     })
 }
@@ -59,7 +61,11 @@ impl Outcome {
                     Some(_) => "; that is not unsat",
                     None => "",
                 };
-                format!("none: nothing fits within the bounds v = {v}, n = {n}, p = {p}{not_unsat}")
+                let profile = match self.profile {
+                    Profile::Strong => "",
+                    Profile::Ordinary => ", separation being ordinary",
+                };
+                format!("none: nothing fits within the bounds v = {v}, n = {n}, p = {p}{profile}{not_unsat}")
             }
         }
     }

@@ -42,7 +42,7 @@ fn whole_file(book: &Book, text: &str) -> String {
     let Bounds { v, n, p } = book.bounds();
     let names: Vec<String> = (1..=v).map(|variable| format!("v{variable}")).collect();
     let file = smtlib::whole_file(text, &names);
-    format!("; from a book with n = {n}, p = {p}; its sep and wand are those of strong separation\n{file}")
+    format!("; from a book with n = {n}, p = {p}; its sep and wand are strong, unless asked otherwise\n{file}")
 }
 
 /// Why the text can't be read back, as the proved import says.

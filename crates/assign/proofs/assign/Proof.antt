@@ -19,7 +19,7 @@ returns : tie.Need-returns
 returns c =
     let a = c .before .before .before .before .before .before .args in
     let o = c .before .before .before .«open» in
-    assigns-book (a .book .now) (a .assignment .now) (o .result .answer) (o .ensures .answer) (c .if1 .taken)
+    assigns-book (a .profile) (a .book .now) (a .assignment .now) (o .result .answer) (o .ensures .answer) (c .if1 .taken)
 
 part-requires : tie.Need-part-requires
 part-requires c κs =
@@ -52,7 +52,7 @@ returns-2 c =
     let o = c .before .before .before .before .before .before .before .«open» in
     let f = c .before .before .before .part .result .now in
     let w = opened (a .book .now) f (o .result .answer) (o .result .v) (o .result .n) (o .result .p) (o .ensures) (c .before .before .before .before .if1 .left) (c .before .before .before .part .ensures) in
-    assigns-19 (a .book .now) f (a .assignment .now) (o .result .v) (o .result .n) (o .result .p) w _ _ (c .before .before .encodable .ensures) (not-true _ (c .before .if2 .taken)) (c .answer-of .ensures)
+    assigns-19 (a .profile) (a .book .now) f (a .assignment .now) (o .result .v) (o .result .n) (o .result .p) w _ _ (c .before .before .encodable .ensures) (not-true _ (c .before .if2 .taken)) (c .answer-of .ensures)
 
 above-requires : tie.Need-above-requires
 above-requires c κs = search needs
@@ -90,7 +90,7 @@ returns-3 c =
     let k = known (a .book .now) f (o .result .v) (o .result .n) (o .result .p) w in
     let ex = arrays-are (o .result .v) f k (c .before .before .before .before .above .result) (c .before .before .before .before .above .ensures .0) in
     let ey = sets-are (o .result .v) f k (c .before .before .before .above2 .result) (c .before .before .before .above2 .ensures .0) in
-    assigns-range (a .book .now) f (a .assignment .now) (o .result .v) (o .result .n) (o .result .p) w _ (c .before .before .before .before .before .before .encodable .ensures) (not-false _ (c .before .before .before .before .before .if2 .left)) _ _ ex ey (c .before .before .in-range .result) (c .before .before .in-range .ensures) (c .if3 .taken)
+    assigns-range (a .profile) (a .book .now) f (a .assignment .now) (o .result .v) (o .result .n) (o .result .p) w _ (c .before .before .before .before .before .before .encodable .ensures) (not-false _ (c .before .before .before .before .before .if2 .left)) _ _ ex ey (c .before .before .in-range .result) (c .before .before .in-range .ensures) (c .if3 .taken)
 
 satisfies-requires : tie.Need-satisfies-requires
 satisfies-requires c κs =
@@ -101,7 +101,7 @@ satisfies-requires c κs =
     let k = known (a .book .now) f (o .result .v) (o .result .n) (o .result .p) w in
     let ex = arrays-are (o .result .v) f k (c .before .before .before .before .above .result) (c .before .before .before .before .above .ensures .0) in
     let ey = sets-are (o .result .v) f k (c .before .before .before .above2 .result) (c .before .before .before .above2 .ensures .0) in
-    judging (a .book .now) f (a .assignment .now) (o .result .v) (o .result .n) (o .result .p) w _ (c .before .before .before .before .before .before .encodable .ensures) (not-false _ (c .before .before .before .before .before .if2 .left)) _ _ ex ey (c .before .before .in-range .result) (c .before .before .in-range .ensures) (c .if3 .left)
+    judging (a .profile) (a .book .now) f (a .assignment .now) (o .result .v) (o .result .n) (o .result .p) w _ (c .before .before .before .before .before .before .encodable .ensures) (not-false _ (c .before .before .before .before .before .if2 .left)) _ _ ex ey (c .before .before .in-range .result) (c .before .before .in-range .ensures) (c .if3 .left)
 
 answer-of-requires-2 : tie.Need-answer-of-requires-2
 answer-of-requires-2 c κs = search needs
@@ -118,7 +118,7 @@ returns-4 c =
     let k = known (a .book .now) f (o .result .v) (o .result .n) (o .result .p) w in
     let ex = arrays-are (o .result .v) f k (c .before .before .before .before .before .before .before .above .result) (c .before .before .before .before .before .before .before .above .ensures .0) in
     let ey = sets-are (o .result .v) f k (c .before .before .before .before .before .before .above2 .result) (c .before .before .before .before .before .before .above2 .ensures .0) in
-    assigns-verdict (a .book .now) f (a .assignment .now) (o .result .v) (o .result .n) (o .result .p) w _ (c .before .before .before .before .before .before .before .before .before .encodable .ensures) (not-false _ (c .before .before .before .before .before .before .before .before .if2 .left)) _ _ ex ey (c .before .before .before .before .before .in-range .result) (c .before .before .before .before .before .in-range .ensures) (c .before .before .before .if3 .left) (c .answer-of2 .result)
+    assigns-verdict (a .profile) (a .book .now) f (a .assignment .now) (o .result .v) (o .result .n) (o .result .p) w _ (c .before .before .before .before .before .before .before .before .before .encodable .ensures) (not-false _ (c .before .before .before .before .before .before .before .before .if2 .left)) _ _ ex ey (c .before .before .before .before .before .in-range .result) (c .before .before .before .before .before .in-range .ensures) (c .before .before .before .if3 .left) (c .answer-of2 .result)
     (inl (c .before .before .satisfies .ensures .to (c .before .if4 .taken), c .answer-of2 .ensures))
 
 returns-5 : tie.Need-returns-5
@@ -130,7 +130,7 @@ returns-5 c =
     let k = known (a .book .now) f (o .result .v) (o .result .n) (o .result .p) w in
     let ex = arrays-are (o .result .v) f k (c .before .before .before .before .before .before .before .above .result) (c .before .before .before .before .before .before .before .above .ensures .0) in
     let ey = sets-are (o .result .v) f k (c .before .before .before .before .before .before .above2 .result) (c .before .before .before .before .before .before .above2 .ensures .0) in
-    assigns-verdict (a .book .now) f (a .assignment .now) (o .result .v) (o .result .n) (o .result .p) w _ (c .before .before .before .before .before .before .before .before .before .encodable .ensures) (not-false _ (c .before .before .before .before .before .before .before .before .if2 .left)) _ _ ex ey (c .before .before .before .before .before .in-range .result) (c .before .before .before .before .before .in-range .ensures) (c .before .before .before .if3 .left) (c .answer-of3 .result)
+    assigns-verdict (a .profile) (a .book .now) f (a .assignment .now) (o .result .v) (o .result .n) (o .result .p) w _ (c .before .before .before .before .before .before .before .before .before .encodable .ensures) (not-false _ (c .before .before .before .before .before .before .before .before .if2 .left)) _ _ ex ey (c .before .before .before .before .before .in-range .result) (c .before .before .before .before .before .in-range .ensures) (c .before .before .before .if3 .left) (c .answer-of3 .result)
     (inr (fails _ (c .before .before .satisfies .ensures) (c .before .if4 .left), c .answer-of3 .ensures))
 
 pub assign-spec : {M : Type 1} → statement M

@@ -24,8 +24,8 @@ add-node c =
     let a = c .before .before .before .args in
     omega (arith, z .few-vars, bytes-few (a .arrays) (a .n) (few-arrays (a .q .now) (a .f .now) (a .v) (a .n) (a .arrays) (a .sets) z) (z .few-locs))
 
-unnamed-requires : tie.Need-unnamed-requires
-unnamed-requires c κs = search needs
+barred-requires : tie.Need-barred-requires
+barred-requires c κs = search needs
 
 unpack-requires : tie.Need-unpack-requires
 unpack-requires c κs =
@@ -44,26 +44,26 @@ node-requires c κs =
     let z = c .before .before .before .before .before .before .pre in
     let a = c .before .before .before .before .before .before .args in
     let e = packed-stack (a .q .now) (λ i. omega (arith, c .before .before .before .before .before .shared-slice-known .given i)) (a .v) (c .before .before .before .packed .result) (c .before .before .before .packed .ensures) in
-    (ready (a .q .now) (a .f .now) (a .v) (a .n) (a .arrays) (a .sets) z (c .before .before .before .packed .result) (c .before .before .unnamed .result) _ e (c .before .before .unnamed .ensures) (c .before .unpack .ensures), z .table, omega (arith, z .table .some), within (a .q .now) (a .f .now) (a .v) (a .n) (a .arrays) (a .sets) z (c .before .before .before .packed .result) (c .before .before .unnamed .result))
+    (ready (a .q .now) (a .f .now) (a .v) (a .n) (a .arrays) (a .sets) z (a .profile) (c .before .before .before .packed .result) (c .before .before .barred .result) _ e (c .before .before .barred .ensures) (c .before .unpack .ensures), z .table, omega (arith, z .table .some), within (a .q .now) (a .f .now) (a .v) (a .n) (a .arrays) (a .sets) z (a .profile) (c .before .before .before .packed .result) (c .before .before .barred .result))
 
 long-holds-requires : tie.Need-long-holds-requires
 long-holds-requires c κs =
     let z = c .before .before .before .before .before .before .before .before .before .pre in
     let a = c .before .before .before .before .before .before .before .before .before .args in
     let e = packed-stack (a .q .now) (λ i. omega (arith, c .before .before .before .before .before .before .before .before .shared-slice-known .given i)) (a .v) (c .before .before .before .before .before .before .packed .result) (c .before .before .before .before .before .before .packed .ensures) in
-    (ready (a .q .now) (a .f .now) (a .v) (a .n) (a .arrays) (a .sets) z (c .before .before .before .before .before .before .packed .result) (c .before .before .before .before .before .unnamed .result) _ e (c .before .before .before .before .before .unnamed .ensures) (c .before .before .before .before .unpack .ensures), omega (arith, z .arrays), omega (arith, z .sets))
+    (ready (a .q .now) (a .f .now) (a .v) (a .n) (a .arrays) (a .sets) z (a .profile) (c .before .before .before .before .before .before .packed .result) (c .before .before .before .before .before .barred .result) _ e (c .before .before .before .before .before .barred .ensures) (c .before .before .before .before .unpack .ensures), omega (arith, z .arrays), omega (arith, z .sets))
 
 returns : tie.Need-returns
 returns c =
     let z = c .before .before .before .before .before .before .before .before .before .before .pre in
     let a = c .before .before .before .before .before .before .before .before .before .before .args in
-    long-satisfies (a .q .now) (a .f .now) (a .v) (a .n) (a .arrays) (a .sets) z (c .before .before .before .before .before .before .before .packed .result) (c .before .before .before .before .before .before .unnamed .result) (a .p) (c .before .before .before .node .result) (c .before .before .before .node .ensures) (c .before .before .if1 .taken) _ (c .long-holds .ensures)
+    long-satisfies (a .q .now) (a .f .now) (a .v) (a .n) (a .arrays) (a .sets) z (a .profile) (c .before .before .before .before .before .before .before .packed .result) (c .before .before .before .before .before .before .barred .result) (a .p) (c .before .before .before .node .result) (c .before .before .before .node .ensures) (c .before .before .if1 .taken) _ (c .long-holds .ensures)
 
 returns-2 : tie.Need-returns-2
 returns-2 c =
     let z = c .before .before .before .before .before .before .before .before .pre in
     let a = c .before .before .before .before .before .before .before .before .args in
-    not-satisfied (a .q .now) (a .f .now) (a .v) (a .n) (a .arrays) (a .sets) z (c .before .before .before .before .before .packed .result) (c .before .before .before .before .unnamed .result) (a .p) (c .before .node .result) (c .before .node .ensures) (c .if1 .left)
+    not-satisfied (a .q .now) (a .f .now) (a .v) (a .n) (a .arrays) (a .sets) z (a .profile) (c .before .before .before .before .before .packed .result) (c .before .before .before .before .barred .result) (a .p) (c .before .node .result) (c .before .node .ensures) (c .if1 .left)
 
 pub satisfies-spec : {M : Type 1} → statement M
 satisfies-spec =
@@ -72,7 +72,7 @@ satisfies-spec =
     packed-requires
     mul-node
     add-node
-    unnamed-requires
+    barred-requires
     unpack-requires
     sub-node
     node-requires

@@ -10,15 +10,15 @@ use Rattle.logic.specs.Reflect.{fails}
 use Rattle.logic.specs.Candidates.{total}
 use Rattle.logic.specs.Search.{CandidateFits}
 use Rattle.hunt.specs.Hunt.{Going}
-use Rattle.hunt.specs.HuntLaws.{going-start, going-fits, going-next, hunted-found, hunted-none, hunted-spent, hunted-as, unnamed-kept}
+use Rattle.hunt.specs.HuntLaws.{going-start, going-fits, going-next, hunted-found, hunted-none, hunted-spent, hunted-as, barred-kept}
 use Rattle.hunt.proofs.hunt.Statement.{statement}
 use Rattle.hunt.proofs.hunt.Tie as tie
 
 abbrev Inv-loop : tie.InvT-loop
-Inv-loop f k v n p budget t end c₀ u₀ i₀ c u i = Going v n (CandidateFits v n p (tree f k)) i c u × (i ≤ end) × (end ≤ t) × (end ≤ budget) × ((end ≡ t) ⊎ (end ≡ budget)) × (t ≡ total v n)
+Inv-loop π f k v n p budget t end c₀ u₀ i₀ c u i = Going π v n (CandidateFits π v n p (tree f k)) i c u × (i ≤ end) × (end ≤ t) × (end ≤ budget) × ((end ≡ t) ⊎ (end ≡ budget)) × (t ≡ total v n)
 
 abbrev μ-loop : tie.MeasureT-loop
-μ-loop f k v n p budget t end c₀ u₀ i₀ c u i = end - i
+μ-loop π f k v n p budget t end c₀ u₀ i₀ c u i = end - i
 
 total-requires : tie.Need-total-requires Inv-loop μ-loop
 total-requires c κs = search needs
@@ -29,19 +29,19 @@ least-requires c κs = search needs
 first-requires : tie.Need-first-requires Inv-loop μ-loop
 first-requires c κs = search needs
 
-unnamed-for-requires : tie.Need-unnamed-for-requires Inv-loop μ-loop
-unnamed-for-requires c κs = (c .first .ensures .0, λ f. absurd (f (c .first .ensures .4)))
+barred-for-requires : tie.Need-barred-for-requires Inv-loop μ-loop
+barred-for-requires c κs = (c .first .ensures .0, λ f. absurd (f (c .first .ensures .4)))
 
 loop-holds : tie.Need-loop-holds Inv-loop μ-loop
 loop-holds c =
     let e = c .before .first .ensures in
     let l = c .before .before .least .ensures in
-    (going-start _ _ _ _ _ (e .0) (e .1) (e .2) (e .3) (c .unnamed-for .ensures), omega arith, l .0, l .1, l .2, c .before .before .before .total .ensures)
+    (going-start _ _ _ _ _ _ (e .0) (e .1) (e .2) (e .3) (c .barred-for .ensures), omega arith, l .0, l .1, l .2, c .before .before .before .total .ensures)
 
 fits-requires : tie.Need-fits-requires Inv-loop μ-loop
 fits-requires c κs =
     let g = c .before .loop .inv .0 in
-    (omega arith, subst (λ (v : ℕ). Sound v (c .before .before .before .before .before .before .args .f .now) (suc (c .before .before .before .before .before .before .args .k))) (sym (g .vars)) (c .before .before .before .before .before .before .pre .1), g .range, g .unnamed)
+    (omega arith, subst (λ (v : ℕ). Sound v (c .before .before .before .before .before .before .args .f .now) (suc (c .before .before .before .before .before .before .args .k))) (sym (g .vars)) (c .before .before .before .before .before .before .pre .1), g .range, g .barred)
 
 add-stop : tie.Need-add-stop Inv-loop μ-loop
 add-stop c = omega arith
@@ -54,15 +54,15 @@ returns c =
     let a = c .before .before .before .before .before .before .before .before .before .args in
     let l = c .before .before .before .before .loop in
     let m : l .i < total (a .v) (a .n) = omega (arith, l .inv .5) in
-    let y = going-fits (a .v) (a .n) (a .p) (tree (a .f .now) (a .k)) (l .i) (l .u) (l .c) (l .inv .0) m _ (c .before .before .fits2 .ensures) .to (c .before .if1 .taken) in
-    hunted-as (a .v) (a .n) (CandidateFits (a .v) (a .n) (a .p) (tree (a .f .now) (a .k))) (a .budget) _ _ _ _ (c .stop .ensures .0) (c .stop .ensures .1)
-    (hunted-found (a .v) (a .n) (CandidateFits (a .v) (a .n) (a .p) (tree (a .f .now) (a .k))) (l .i) (l .u) (l .c) (l .inv .0) m (a .budget) (omega arith) y)
+    let y = going-fits (a .profile) (a .v) (a .n) (a .p) (tree (a .f .now) (a .k)) (l .i) (l .u) (l .c) (l .inv .0) m _ (c .before .before .fits2 .ensures) .to (c .before .if1 .taken) in
+    hunted-as (a .v) (a .n) (CandidateFits (a .profile) (a .v) (a .n) (a .p) (tree (a .f .now) (a .k))) (a .budget) _ _ _ _ (c .stop .ensures .0) (c .stop .ensures .1)
+    (hunted-found (a .profile) (a .v) (a .n) (CandidateFits (a .profile) (a .v) (a .n) (a .p) (tree (a .f .now) (a .k))) (l .i) (l .u) (l .c) (l .inv .0) m (a .budget) (omega arith) y)
 
 next-requires : tie.Need-next-requires Inv-loop μ-loop
 next-requires c κs = c .before .before .before .loop .inv .0 .range
 
-unnamed-for-requires-2 : tie.Need-unnamed-for-requires-2 Inv-loop μ-loop
-unnamed-for-requires-2 c κs = (c .next .ensures .range, unnamed-kept _ _ _ (c .next .ensures) (c .before .before .before .before .loop .inv .0 .unnamed))
+barred-for-requires-2 : tie.Need-barred-for-requires-2 Inv-loop μ-loop
+barred-for-requires-2 c κs = (c .next .ensures .range, barred-kept _ _ _ _ (c .next .ensures) (c .before .before .before .before .loop .inv .0 .barred))
 
 add-i : tie.Need-add-i Inv-loop μ-loop
 add-i c = omega arith
@@ -75,8 +75,8 @@ loop-again c =
     let a = c .before .before .before .before .before .before .before .before .before .before .args in
     let l = c .before .before .before .before .before .loop in
     let m : l .i < total (a .v) (a .n) = omega (arith, l .inv .5) in
-    let f = fails _ (going-fits (a .v) (a .n) (a .p) (tree (a .f .now) (a .k)) (l .i) (l .u) (l .c) (l .inv .0) m _ (c .before .before .before .fits2 .ensures)) (c .before .before .if1 .left) in
-    (going-next (a .v) (a .n) (CandidateFits (a .v) (a .n) (a .p) (tree (a .f .now) (a .k))) (l .i) (l .u) (l .c) (l .inv .0) m (c .before .next .result) (c .unnamed-for2 .result) (c .before .next .ensures) (c .unnamed-for2 .ensures) f, omega arith, l .inv .2, l .inv .3, l .inv .4, l .inv .5)
+    let f = fails _ (going-fits (a .profile) (a .v) (a .n) (a .p) (tree (a .f .now) (a .k)) (l .i) (l .u) (l .c) (l .inv .0) m _ (c .before .before .before .fits2 .ensures)) (c .before .before .if1 .left) in
+    (going-next (a .profile) (a .v) (a .n) (CandidateFits (a .profile) (a .v) (a .n) (a .p) (tree (a .f .now) (a .k))) (l .i) (l .u) (l .c) (l .inv .0) m (c .before .next .result) (c .barred-for2 .result) (c .before .next .ensures) (c .barred-for2 .ensures) f, omega arith, l .inv .2, l .inv .3, l .inv .4, l .inv .5)
 
 enough-requires : tie.Need-enough-requires Inv-loop μ-loop
 enough-requires c κs = search needs
@@ -89,8 +89,8 @@ returns-2 c =
     let a = c .before .before .before .before .before .before .before .before .before .args in
     let l = c .before .before .before .before .loop in
     let e = leb-true _ _ (sym (c .before .before .enough .ensures) ∙ c .before .if2 .taken) in
-    hunted-as (a .v) (a .n) (CandidateFits (a .v) (a .n) (a .p) (tree (a .f .now) (a .k))) (a .budget) _ _ _ _ (c .stop2 .ensures .0) (c .stop2 .ensures .1)
-    (hunted-none (a .v) (a .n) (CandidateFits (a .v) (a .n) (a .p) (tree (a .f .now) (a .k))) _ (a .budget) _ (l .i) (l .u) (l .c) (l .inv .0) (l .inv .5) (l .inv .1) (c .before .before .before .loop-test .left) (l .inv .4) (l .inv .2) (l .inv .3) e)
+    hunted-as (a .v) (a .n) (CandidateFits (a .profile) (a .v) (a .n) (a .p) (tree (a .f .now) (a .k))) (a .budget) _ _ _ _ (c .stop2 .ensures .0) (c .stop2 .ensures .1)
+    (hunted-none (a .profile) (a .v) (a .n) (CandidateFits (a .profile) (a .v) (a .n) (a .p) (tree (a .f .now) (a .k))) _ (a .budget) _ (l .i) (l .u) (l .c) (l .inv .0) (l .inv .5) (l .inv .1) (c .before .before .before .loop-test .left) (l .inv .4) (l .inv .2) (l .inv .3) e)
 
 stop-requires-3 : tie.Need-stop-requires-3 Inv-loop μ-loop
 stop-requires-3 c κs = search needs
@@ -100,8 +100,8 @@ returns-3 c =
     let a = c .before .before .before .before .before .before .before .before .before .args in
     let l = c .before .before .before .before .loop in
     let e = leb-false _ _ (sym (c .before .before .enough .ensures) ∙ c .before .if2 .left) in
-    hunted-as (a .v) (a .n) (CandidateFits (a .v) (a .n) (a .p) (tree (a .f .now) (a .k))) (a .budget) _ _ _ _ (c .stop3 .ensures .0) (c .stop3 .ensures .1)
-    (hunted-spent (a .v) (a .n) (CandidateFits (a .v) (a .n) (a .p) (tree (a .f .now) (a .k))) _ (a .budget) _ (l .i) (l .u) (l .c) (l .inv .0) (l .inv .5) (l .inv .1) (c .before .before .before .loop-test .left) (l .inv .4) (l .inv .2) (l .inv .3) e)
+    hunted-as (a .v) (a .n) (CandidateFits (a .profile) (a .v) (a .n) (a .p) (tree (a .f .now) (a .k))) (a .budget) _ _ _ _ (c .stop3 .ensures .0) (c .stop3 .ensures .1)
+    (hunted-spent (a .profile) (a .v) (a .n) (CandidateFits (a .profile) (a .v) (a .n) (a .p) (tree (a .f .now) (a .k))) _ (a .budget) _ (l .i) (l .u) (l .c) (l .inv .0) (l .inv .5) (l .inv .1) (c .before .before .before .loop-test .left) (l .inv .4) (l .inv .2) (l .inv .3) e)
 
 pub hunt-spec : {M : Type 1} → statement M
 hunt-spec =
@@ -112,14 +112,14 @@ hunt-spec =
     total-requires
     least-requires
     first-requires
-    unnamed-for-requires
+    barred-for-requires
     loop-holds
     fits-requires
     add-stop
     stop-requires
     returns
     next-requires
-    unnamed-for-requires-2
+    barred-for-requires-2
     add-i
     loop-less
     loop-again

@@ -19,7 +19,7 @@ use Rattle.cells.proofs.source_below.Reads as source-below-reads
 use Rattle.cells.proofs.spread.Reads as spread-reads
 use Rattle.cells.proofs.table.Reads as table-reads
 use Rattle.cells.proofs.taken.Reads as taken-reads
-use Rattle.judge.specs.Setting.{varsOf, locsOf, stackOf, truthAt, firstAt, secondAt, servesAt, Trying, Tried}
+use Rattle.judge.specs.Setting.{varsOf, locsOf, profileOf, stackOf, truthAt, firstAt, secondAt, servesAt, Trying, Tried}
 use Rattle.judge.specs.Joins.{operator-low, operator-high, lower-a, lower-b, ready-below, truth-5, truth-6, truth-7, truth-8, truth-9, truth-10, and-first, and-second}
 use Rattle.judge.specs.Trial.{chosen-any, sub-le, trying-first, sub-within, trying-next, trying-none, trying-found, part-is-heap, rest-is-heap, serves-not-apart, serves-both, sep-out}
 use Rattle.judge.specs.Adding.{fill-first, whole-heap, fill-less, put-filled, fill-skip, fill-clash, put-found, fill-last, tried-none, tried-more, tried-found, tried-all, added-is}
@@ -202,7 +202,7 @@ added-element-copy-out-met : (t : ℕ) → added-lts.Need-element-copy-out-met (
 added-element-copy-out-met t c = search needs
 
 added-met-requires : (t : ℕ) → added-lts.Need-met-requires (added-uses t) (added-at t) added.Post
-added-met-requires t c κs = (((c .before .pre .1 .0) .ready .unnamed) .small, heap-more _ _ _ ((c .before .pre .1 .0) .ready .fewLocs) (c .before .pre .1 .1))
+added-met-requires t c κs = (((c .before .pre .1 .0) .ready .barred) .small, heap-more _ _ _ ((c .before .pre .1 .0) .ready .fewLocs) (c .before .pre .1 .1))
 
 added-element-copy-out-source-below : (t : ℕ) → added-lts.Need-element-copy-out-source-below (added-uses t) (added-at t) added.Post
 added-element-copy-out-source-below t c = search needs
@@ -211,16 +211,16 @@ added-source-below-requires : (t : ℕ) → added-lts.Need-source-below-requires
 added-source-below-requires t c κs = ((c .before .before .before .pre .1 .0) .ready .fewLocs)
 
 added-both-requires : (t : ℕ) → added-lts.Need-both-requires (added-uses t) (added-at t) added.Post
-added-both-requires t c κs = (omega arith, ((c .before .before .before .before .before .pre .1 .0), (fill-first _ _ _ _ ((c .before .before .before .before .before .pre .1 .0) .ready .unnamed) _ (c .before .before .before .before .before .pre .1 .1) _ (c .before .before .before .met .ensures)) .heap, (c .before .before .before .before .before .pre .1 .1)))
+added-both-requires t c κs = (omega arith, ((c .before .before .before .before .before .pre .1 .0), (fill-first _ _ _ _ ((c .before .before .before .before .before .pre .1 .0) .ready .barred) _ (c .before .before .before .before .before .pre .1 .1) _ (c .before .before .before .met .ensures)) .heap, (c .before .before .before .before .before .pre .1 .1)))
 
 added-returns : (t : ℕ) → added-lts.Need-returns (added-uses t) (added-at t) added.Post
-added-returns t c = fill-skip _ _ _ _ ((c .before .before .before .before .before .before .pre .1 .0) .ready .unnamed) _ (c .before .before .before .before .before .before .pre .1 .1) _ _ _ (fill-first _ _ _ _ ((c .before .before .before .before .before .before .pre .1 .0) .ready .unnamed) _ (c .before .before .before .before .before .before .pre .1 .1) _ (c .before .before .before .before .met .ensures)) _ _ 0 _ (subst (SourceBelow _ _ _) (c .before .if1 .taken) (c .before .before .source-below .ensures)) (fill-last _ _ _ _ ((c .before .before .before .before .before .before .pre .1 .0) .ready .unnamed) _ (c .before .before .before .before .before .before .pre .1 .1) _ _ (fill-less _ _ _ _ ((c .before .before .before .before .before .before .pre .1 .0) .ready .unnamed) _ (c .before .before .before .before .before .before .pre .1 .1) _ _ _ (fill-first _ _ _ _ ((c .before .before .before .before .before .before .pre .1 .0) .ready .unnamed) _ (c .before .before .before .before .before .before .pre .1 .1) _ (c .before .before .before .before .met .ensures)) _ zero-le) _ _ _ (c .both .ensures))
+added-returns t c = fill-skip _ _ _ _ ((c .before .before .before .before .before .before .pre .1 .0) .ready .barred) _ (c .before .before .before .before .before .before .pre .1 .1) _ _ _ (fill-first _ _ _ _ ((c .before .before .before .before .before .before .pre .1 .0) .ready .barred) _ (c .before .before .before .before .before .before .pre .1 .1) _ (c .before .before .before .before .met .ensures)) _ _ 0 _ (subst (SourceBelow _ _ _) (c .before .if1 .taken) (c .before .before .source-below .ensures)) (fill-last _ _ _ _ ((c .before .before .before .before .before .before .pre .1 .0) .ready .barred) _ (c .before .before .before .before .before .before .pre .1 .1) _ _ (fill-less _ _ _ _ ((c .before .before .before .before .before .before .pre .1 .0) .ready .barred) _ (c .before .before .before .before .before .before .pre .1 .1) _ _ _ (fill-first _ _ _ _ ((c .before .before .before .before .before .before .pre .1 .0) .ready .barred) _ (c .before .before .before .before .before .before .pre .1 .1) _ (c .before .before .before .before .met .ensures)) _ zero-le) _ _ _ (c .both .ensures))
 
 added-fill-requires : (t : ℕ) → added-lts.Need-fill-requires (added-uses t) (added-at t) added.Post
-added-fill-requires t c κs = let sb = c .before .source-below .ensures in (omega (arith, sb .low, ((c .before .before .before .before .before .pre .1 .0) .ready .fewLocs)), ((c .before .before .before .before .before .pre .1 .0), (c .before .before .before .before .before .pre .1 .1), (fill-less _ _ _ _ ((c .before .before .before .before .before .pre .1 .0) .ready .unnamed) _ (c .before .before .before .before .before .pre .1 .1) _ _ _ (fill-first _ _ _ _ ((c .before .before .before .before .before .pre .1 .0) .ready .unnamed) _ (c .before .before .before .before .before .pre .1 .1) _ (c .before .before .before .met .ensures)) _ (sb .low)), omega arith, sb .source (c .if1 .left)))
+added-fill-requires t c κs = let sb = c .before .source-below .ensures in (omega (arith, sb .low, ((c .before .before .before .before .before .pre .1 .0) .ready .fewLocs)), ((c .before .before .before .before .before .pre .1 .0), (c .before .before .before .before .before .pre .1 .1), (fill-less _ _ _ _ ((c .before .before .before .before .before .pre .1 .0) .ready .barred) _ (c .before .before .before .before .before .pre .1 .1) _ _ _ (fill-first _ _ _ _ ((c .before .before .before .before .before .pre .1 .0) .ready .barred) _ (c .before .before .before .before .before .pre .1 .1) _ (c .before .before .before .met .ensures)) _ (sb .low)), omega arith, sb .source (c .if1 .left)))
 
 added-returns-2 : (t : ℕ) → added-lts.Need-returns-2 (added-uses t) (added-at t) added.Post
-added-returns-2 t c = fill-skip _ _ _ _ ((c .before .before .before .before .before .before .pre .1 .0) .ready .unnamed) _ (c .before .before .before .before .before .before .pre .1 .1) _ _ _ (fill-first _ _ _ _ ((c .before .before .before .before .before .before .pre .1 .0) .ready .unnamed) _ (c .before .before .before .before .before .before .pre .1 .1) _ (c .before .before .before .before .met .ensures)) _ _ _ _ (c .before .before .source-below .ensures) (c .fill .ensures)
+added-returns-2 t c = fill-skip _ _ _ _ ((c .before .before .before .before .before .before .pre .1 .0) .ready .barred) _ (c .before .before .before .before .before .before .pre .1 .1) _ _ _ (fill-first _ _ _ _ ((c .before .before .before .before .before .before .pre .1 .0) .ready .barred) _ (c .before .before .before .before .before .before .pre .1 .1) _ (c .before .before .before .before .met .ensures)) _ _ _ _ (c .before .before .source-below .ensures) (c .fill .ensures)
 
 b-holds-mul-wide : (t : ℕ) → b-holds-lts.Need-mul-wide (b-holds-uses t) (b-holds-at t) b-holds.Post
 b-holds-mul-wide t c = omega (arith, (c .pre .1 .0) .ready .inside)
@@ -288,25 +288,25 @@ digit-is-target-requires : (t : ℕ) → digit-lts.Need-is-target-requires (digi
 digit-is-target-requires t c κs = ((c .pre .1 .2) .meets .small, omega (arith, ((c .pre .1 .0) .ready .fewLocs)))
 
 digit-returns : (t : ℕ) → digit-lts.Need-returns (digit-uses t) (digit-at t) digit.Post
-digit-returns t c = fill-clash _ _ _ _ ((c .before .before .pre .1 .0) .ready .unnamed) _ (c .before .before .pre .1 .1) _ _ _ (c .before .before .pre .1 .2) _ _ _ (fails _ (c .before .is-target .ensures) (not-true _ (c .if1 .taken)))
+digit-returns t c = fill-clash _ _ _ _ ((c .before .before .pre .1 .0) .ready .barred) _ (c .before .before .pre .1 .1) _ _ _ (c .before .before .pre .1 .2) _ _ _ (fails _ (c .before .is-target .ensures) (not-true _ (c .if1 .taken)))
 
 digit-placed-requires : (t : ℕ) → digit-lts.Need-placed-requires (digit-uses t) (digit-at t) digit.Post
 digit-placed-requires t c κs = (omega (arith, ((c .before .before .pre .1 .0) .ready .fewLocs)), c .before .before .pre .1 .3, omega (arith, (c .before .before .pre .1 .2) .upTo, ((c .before .before .pre .1 .0) .ready .fewLocs)))
 
 digit-both-requires : (t : ℕ) → digit-lts.Need-both-requires (digit-uses t) (digit-at t) digit.Post
-digit-both-requires t c κs = let q = (put-filled _ _ _ _ ((c .before .before .before .before .pre .1 .0) .ready .unnamed) _ (c .before .before .before .before .pre .1 .1) _ _ _ (c .before .before .before .before .pre .1 .2) _ _ (c .before .before .before .before .pre .1 .3) (c .before .before .before .before .pre .1 .7) (c .before .placed .ensures) (c .before .before .before .before .pre .1 .4) (c .before .before .before .is-target .ensures .to (not-false _ (c .before .before .if1 .left)))) in (omega arith, ((c .before .before .before .before .pre .1 .0), q .heap, whole-heap _ _ _ _ ((c .before .before .before .before .pre .1 .0) .ready .unnamed) _ (c .before .before .before .before .pre .1 .1) _ _ _ q))
+digit-both-requires t c κs = let q = (put-filled _ _ _ _ ((c .before .before .before .before .pre .1 .0) .ready .barred) _ (c .before .before .before .before .pre .1 .1) _ _ _ (c .before .before .before .before .pre .1 .2) _ _ (c .before .before .before .before .pre .1 .3) (c .before .before .before .before .pre .1 .7) (c .before .placed .ensures) (c .before .before .before .before .pre .1 .4) (c .before .before .before .is-target .ensures .to (not-false _ (c .before .before .if1 .left)))) in (omega arith, ((c .before .before .before .before .pre .1 .0), q .heap, whole-heap _ _ _ _ ((c .before .before .before .before .pre .1 .0) .ready .barred) _ (c .before .before .before .before .pre .1 .1) _ _ _ q))
 
 digit-returns-2 : (t : ℕ) → digit-lts.Need-returns-2 (digit-uses t) (digit-at t) digit.Post
-digit-returns-2 t c = put-found _ _ _ _ ((c .before .before .before .before .before .pre .1 .0) .ready .unnamed) _ (c .before .before .before .before .before .pre .1 .1) _ _ _ (c .before .before .before .before .before .pre .1 .2) _ _ _ _ (c .before .before .before .before .before .pre .1 .3) (c .before .before .before .before .before .pre .1 .7) (c .before .before .placed .ensures) _ (fill-skip _ _ _ _ ((c .before .before .before .before .before .pre .1 .0) .ready .unnamed) _ (c .before .before .before .before .before .pre .1 .1) _ _ _ (put-filled _ _ _ _ ((c .before .before .before .before .before .pre .1 .0) .ready .unnamed) _ (c .before .before .before .before .before .pre .1 .1) _ _ _ (c .before .before .before .before .before .pre .1 .2) _ _ (c .before .before .before .before .before .pre .1 .3) (c .before .before .before .before .before .pre .1 .7) (c .before .before .placed .ensures) (c .before .before .before .before .before .pre .1 .4) (c .before .before .before .before .is-target .ensures .to (not-false _ (c .before .before .before .if1 .left)))) _ _ 0 _ (subst (SourceBelow _ _ _) (c .before .if2 .taken) (c .before .before .before .before .before .pre .1 .6)) (fill-last _ _ _ _ ((c .before .before .before .before .before .pre .1 .0) .ready .unnamed) _ (c .before .before .before .before .before .pre .1 .1) _ _ (fill-less _ _ _ _ ((c .before .before .before .before .before .pre .1 .0) .ready .unnamed) _ (c .before .before .before .before .before .pre .1 .1) _ _ _ (put-filled _ _ _ _ ((c .before .before .before .before .before .pre .1 .0) .ready .unnamed) _ (c .before .before .before .before .before .pre .1 .1) _ _ _ (c .before .before .before .before .before .pre .1 .2) _ _ (c .before .before .before .before .before .pre .1 .3) (c .before .before .before .before .before .pre .1 .7) (c .before .before .placed .ensures) (c .before .before .before .before .before .pre .1 .4) (c .before .before .before .before .is-target .ensures .to (not-false _ (c .before .before .before .if1 .left)))) _ zero-le) _ _ _ (c .both .ensures)))
+digit-returns-2 t c = put-found _ _ _ _ ((c .before .before .before .before .before .pre .1 .0) .ready .barred) _ (c .before .before .before .before .before .pre .1 .1) _ _ _ (c .before .before .before .before .before .pre .1 .2) _ _ _ _ (c .before .before .before .before .before .pre .1 .3) (c .before .before .before .before .before .pre .1 .7) (c .before .before .placed .ensures) _ (fill-skip _ _ _ _ ((c .before .before .before .before .before .pre .1 .0) .ready .barred) _ (c .before .before .before .before .before .pre .1 .1) _ _ _ (put-filled _ _ _ _ ((c .before .before .before .before .before .pre .1 .0) .ready .barred) _ (c .before .before .before .before .before .pre .1 .1) _ _ _ (c .before .before .before .before .before .pre .1 .2) _ _ (c .before .before .before .before .before .pre .1 .3) (c .before .before .before .before .before .pre .1 .7) (c .before .before .placed .ensures) (c .before .before .before .before .before .pre .1 .4) (c .before .before .before .before .is-target .ensures .to (not-false _ (c .before .before .before .if1 .left)))) _ _ 0 _ (subst (SourceBelow _ _ _) (c .before .if2 .taken) (c .before .before .before .before .before .pre .1 .6)) (fill-last _ _ _ _ ((c .before .before .before .before .before .pre .1 .0) .ready .barred) _ (c .before .before .before .before .before .pre .1 .1) _ _ (fill-less _ _ _ _ ((c .before .before .before .before .before .pre .1 .0) .ready .barred) _ (c .before .before .before .before .before .pre .1 .1) _ _ _ (put-filled _ _ _ _ ((c .before .before .before .before .before .pre .1 .0) .ready .barred) _ (c .before .before .before .before .before .pre .1 .1) _ _ _ (c .before .before .before .before .before .pre .1 .2) _ _ (c .before .before .before .before .before .pre .1 .3) (c .before .before .before .before .before .pre .1 .7) (c .before .before .placed .ensures) (c .before .before .before .before .before .pre .1 .4) (c .before .before .before .before .is-target .ensures .to (not-false _ (c .before .before .before .if1 .left)))) _ zero-le) _ _ _ (c .both .ensures)))
 
 digit-fill-requires : (t : ℕ) → digit-lts.Need-fill-requires (digit-uses t) (digit-at t) digit.Post
-digit-fill-requires t c κs = let sb = c .before .before .before .before .pre .1 .6 in (omega (arith, c .before .before .before .before .pre .1 .5), ((c .before .before .before .before .pre .1 .0), (c .before .before .before .before .pre .1 .1), (fill-less _ _ _ _ ((c .before .before .before .before .pre .1 .0) .ready .unnamed) _ (c .before .before .before .before .pre .1 .1) _ _ _ (put-filled _ _ _ _ ((c .before .before .before .before .pre .1 .0) .ready .unnamed) _ (c .before .before .before .before .pre .1 .1) _ _ _ (c .before .before .before .before .pre .1 .2) _ _ (c .before .before .before .before .pre .1 .3) (c .before .before .before .before .pre .1 .7) (c .before .placed .ensures) (c .before .before .before .before .pre .1 .4) (c .before .before .before .is-target .ensures .to (not-false _ (c .before .before .if1 .left)))) _ (sb .low)), omega arith, sb .source (c .if2 .left)))
+digit-fill-requires t c κs = let sb = c .before .before .before .before .pre .1 .6 in (omega (arith, c .before .before .before .before .pre .1 .5), ((c .before .before .before .before .pre .1 .0), (c .before .before .before .before .pre .1 .1), (fill-less _ _ _ _ ((c .before .before .before .before .pre .1 .0) .ready .barred) _ (c .before .before .before .before .pre .1 .1) _ _ _ (put-filled _ _ _ _ ((c .before .before .before .before .pre .1 .0) .ready .barred) _ (c .before .before .before .before .pre .1 .1) _ _ _ (c .before .before .before .before .pre .1 .2) _ _ (c .before .before .before .before .pre .1 .3) (c .before .before .before .before .pre .1 .7) (c .before .placed .ensures) (c .before .before .before .before .pre .1 .4) (c .before .before .before .is-target .ensures .to (not-false _ (c .before .before .if1 .left)))) _ (sb .low)), omega arith, sb .source (c .if2 .left)))
 
 digit-returns-3 : (t : ℕ) → digit-lts.Need-returns-3 (digit-uses t) (digit-at t) digit.Post
-digit-returns-3 t c = put-found _ _ _ _ ((c .before .before .before .before .before .pre .1 .0) .ready .unnamed) _ (c .before .before .before .before .before .pre .1 .1) _ _ _ (c .before .before .before .before .before .pre .1 .2) _ _ _ _ (c .before .before .before .before .before .pre .1 .3) (c .before .before .before .before .before .pre .1 .7) (c .before .before .placed .ensures) _ (fill-skip _ _ _ _ ((c .before .before .before .before .before .pre .1 .0) .ready .unnamed) _ (c .before .before .before .before .before .pre .1 .1) _ _ _ (put-filled _ _ _ _ ((c .before .before .before .before .before .pre .1 .0) .ready .unnamed) _ (c .before .before .before .before .before .pre .1 .1) _ _ _ (c .before .before .before .before .before .pre .1 .2) _ _ (c .before .before .before .before .before .pre .1 .3) (c .before .before .before .before .before .pre .1 .7) (c .before .before .placed .ensures) (c .before .before .before .before .before .pre .1 .4) (c .before .before .before .before .is-target .ensures .to (not-false _ (c .before .before .before .if1 .left)))) _ _ _ _ (c .before .before .before .before .before .pre .1 .6) (c .fill .ensures))
+digit-returns-3 t c = put-found _ _ _ _ ((c .before .before .before .before .before .pre .1 .0) .ready .barred) _ (c .before .before .before .before .before .pre .1 .1) _ _ _ (c .before .before .before .before .before .pre .1 .2) _ _ _ _ (c .before .before .before .before .before .pre .1 .3) (c .before .before .before .before .before .pre .1 .7) (c .before .before .placed .ensures) _ (fill-skip _ _ _ _ ((c .before .before .before .before .before .pre .1 .0) .ready .barred) _ (c .before .before .before .before .before .pre .1 .1) _ _ _ (put-filled _ _ _ _ ((c .before .before .before .before .before .pre .1 .0) .ready .barred) _ (c .before .before .before .before .before .pre .1 .1) _ _ _ (c .before .before .before .before .before .pre .1 .2) _ _ (c .before .before .before .before .before .pre .1 .3) (c .before .before .before .before .before .pre .1 .7) (c .before .before .placed .ensures) (c .before .before .before .before .before .pre .1 .4) (c .before .before .before .before .is-target .ensures .to (not-false _ (c .before .before .before .if1 .left)))) _ _ _ _ (c .before .before .before .before .before .pre .1 .6) (c .fill .ensures))
 
 abbrev fill-Inv-loop : fill-lts.InvT-loop
-fill-Inv-loop f k b w u l g next top d₀ d = (d ≤ top + 1) × (top ≡ locsOf b + 1) × Tried (varsOf b) (locsOf b) (stackOf b) (firstAt f b k) (secondAt f b k) (cells w) l (cells g) d
+fill-Inv-loop f k b w u l g next top d₀ d = (d ≤ top + 1) × (top ≡ locsOf b + 1) × Tried (profileOf b) (varsOf b) (locsOf b) (stackOf b) (firstAt f b k) (secondAt f b k) (cells w) l (cells g) d
 
 abbrev fill-μ-loop : fill-lts.MeasureT-loop
 fill-μ-loop f k b w u l g next top d₀ d = top + 1 - d
@@ -324,13 +324,13 @@ fill-add-top : (t : ℕ) → fill-lts.Need-add-top (fill-uses t) (fill-at t) fil
 fill-add-top t c = omega (arith, ((c .before .before .pre .1 .0) .ready .fewLocs))
 
 fill-loop-holds : (t : ℕ) → fill-lts.Need-loop-holds (fill-uses t) (fill-at t) fill.Post fill-Inv-loop fill-μ-loop
-fill-loop-holds t c = (zero-le, refl, tried-none _ _ _ _ ((c .before .before .pre .1 .0) .ready .unnamed) _ (c .before .before .pre .1 .1) _ _ _ _)
+fill-loop-holds t c = (zero-le, refl, tried-none _ _ _ _ ((c .before .before .pre .1 .0) .ready .barred) _ (c .before .before .pre .1 .1) _ _ _ _)
 
 fill-digit-requires : (t : ℕ) → fill-lts.Need-digit-requires (fill-uses t) (fill-at t) fill.Post fill-Inv-loop fill-μ-loop
 fill-digit-requires t c κs = let sb = c .before .before .before .source-below .ensures in (omega arith, ((c .before .before .before .before .pre .1 .0), (c .before .before .before .before .pre .1 .1), c .before .before .before .before .pre .1 .2, c .before .before .before .before .pre .1 .3, c .before .before .before .before .pre .1 .4, omega (arith, sb .low), sb, omega arith))
 
 fill-returns : (t : ℕ) → fill-lts.Need-returns (fill-uses t) (fill-at t) fill.Post fill-Inv-loop fill-μ-loop
-fill-returns t c = tried-found _ _ _ _ ((c .before .before .before .before .before .before .pre .1 .0) .ready .unnamed) _ (c .before .before .before .before .before .before .pre .1 .1) _ _ _ _ _ _ (c .before .digit .ensures) (c .if1 .taken)
+fill-returns t c = tried-found _ _ _ _ ((c .before .before .before .before .before .before .pre .1 .0) .ready .barred) _ (c .before .before .before .before .before .before .pre .1 .1) _ _ _ _ _ _ (c .before .digit .ensures) (c .if1 .taken)
 
 fill-add-d : (t : ℕ) → fill-lts.Need-add-d (fill-uses t) (fill-at t) fill.Post fill-Inv-loop fill-μ-loop
 fill-add-d t c = omega (arith, ((c .before .before .before .before .before .before .pre .1 .0) .ready .fewLocs))
@@ -339,10 +339,10 @@ fill-loop-less : (t : ℕ) → fill-lts.Need-loop-less (fill-uses t) (fill-at t)
 fill-loop-less t c = search needs
 
 fill-loop-again : (t : ℕ) → fill-lts.Need-loop-again (fill-uses t) (fill-at t) fill.Post fill-Inv-loop fill-μ-loop
-fill-loop-again t c = (omega arith, c .before .before .before .loop .inv .1, tried-more _ _ _ _ ((c .before .before .before .before .before .before .pre .1 .0) .ready .unnamed) _ (c .before .before .before .before .before .before .pre .1 .1) _ _ _ _ _ _ (c .before .before .before .loop .inv .2) (c .before .digit .ensures) (c .if1 .left))
+fill-loop-again t c = (omega arith, c .before .before .before .loop .inv .1, tried-more _ _ _ _ ((c .before .before .before .before .before .before .pre .1 .0) .ready .barred) _ (c .before .before .before .before .before .before .pre .1 .1) _ _ _ _ _ _ (c .before .before .before .loop .inv .2) (c .before .digit .ensures) (c .if1 .left))
 
 fill-returns-2 : (t : ℕ) → fill-lts.Need-returns-2 (fill-uses t) (fill-at t) fill.Post fill-Inv-loop fill-μ-loop
-fill-returns-2 t c = tried-all _ _ _ _ ((c .before .before .before .before .pre .1 .0) .ready .unnamed) _ (c .before .before .before .before .pre .1 .1) _ _ _ _ _ (omega arith) (c .before .loop .inv .2)
+fill-returns-2 t c = tried-all _ _ _ _ ((c .before .before .before .before .pre .1 .0) .ready .barred) _ (c .before .before .before .before .pre .1 .1) _ _ _ _ _ (omega arith) (c .before .loop .inv .2)
 
 join-mul-op : (t : ℕ) → join-lts.Need-mul-op (join-uses t) (join-at t) join.Post
 join-mul-op t c = omega (arith, (c .pre .1 .0) .ready .inside)
@@ -396,7 +396,7 @@ join-returns-7 : (t : ℕ) → join-lts.Need-returns-7 (join-uses t) (join-at t)
 join-returns-7 t c = chosen-any _ _ _ ((c .before .before .before .pre .1 .0) .ready .fewLocs) (c .split .ensures) ∙ sym (truth-9 _ _ _ (c .before .before .before .pre .1 .0) _ (c .before .match .keys5))
 
 join-returns-8 : (t : ℕ) → join-lts.Need-returns-8 (join-uses t) (join-at t) join.Post
-join-returns-8 t c = added-is _ _ _ _ ((c .before .before .before .pre .1 .0) .ready .unnamed) _ (c .before .before .before .pre .1 .1) _ _ _ (c .added .ensures) ∙ sym (truth-10 _ _ _ (c .before .before .before .pre .1 .0) _ (c .before .match .rest .0 .0 .0 .0 .1) (c .before .match .rest .0 .0 .0 .1) (c .before .match .rest .0 .0 .1) (c .before .match .rest .0 .1) (c .before .match .rest .1))
+join-returns-8 t c = added-is _ _ _ _ ((c .before .before .before .pre .1 .0) .ready .barred) _ (c .before .before .before .pre .1 .1) _ _ _ (c .added .ensures) ∙ sym (truth-10 _ _ _ (c .before .before .before .pre .1 .0) _ (c .before .match .rest .0 .0 .0 .0 .1) (c .before .match .rest .0 .0 .0 .1) (c .before .match .rest .0 .0 .1) (c .before .match .rest .0 .1) (c .before .match .rest .1))
 
 serves-spread-requires : (t : ℕ) → serves-lts.Need-spread-requires (serves-uses t) (serves-at t) serves.Post
 serves-spread-requires t c κs = c .pre .1 .3
@@ -405,13 +405,13 @@ serves-parts-apart-requires : (t : ℕ) → serves-lts.Need-parts-apart-requires
 serves-parts-apart-requires t c κs = search needs
 
 serves-returns : (t : ℕ) → serves-lts.Need-returns (serves-uses t) (serves-at t) serves.Post
-serves-returns t c = serves-not-apart _ _ _ _ ((c .before .before .before .pre .1 .0) .ready .unnamed) _ _ _ _ (c .before .before .before .pre .1 .1) (c .before .before .before .pre .1 .2) (c .before .before .spread .ensures) _ _ _ (c .before .before .before .pre .1 .4) (c .before .parts-apart .ensures) (not-true _ (c .if1 .taken))
+serves-returns t c = serves-not-apart _ _ _ _ ((c .before .before .before .pre .1 .0) .ready .barred) _ _ _ _ (c .before .before .before .pre .1 .1) (c .before .before .before .pre .1 .2) (c .before .before .spread .ensures) _ _ _ (c .before .before .before .pre .1 .4) (c .before .parts-apart .ensures) (not-true _ (c .if1 .taken))
 
 serves-both-requires : (t : ℕ) → serves-lts.Need-both-requires (serves-uses t) (serves-at t) serves.Post
-serves-both-requires t c κs = (omega arith, ((c .before .before .before .pre .1 .0), part-is-heap _ _ _ _ ((c .before .before .before .pre .1 .0) .ready .unnamed) _ _ _ _ (c .before .before .before .pre .1 .1) (c .before .before .before .pre .1 .2) (c .before .before .spread .ensures), rest-is-heap _ _ _ _ ((c .before .before .before .pre .1 .0) .ready .unnamed) _ _ _ _ (c .before .before .before .pre .1 .1) (c .before .before .before .pre .1 .2) (c .before .before .spread .ensures)))
+serves-both-requires t c κs = (omega arith, ((c .before .before .before .pre .1 .0), part-is-heap _ _ _ _ ((c .before .before .before .pre .1 .0) .ready .barred) _ _ _ _ (c .before .before .before .pre .1 .1) (c .before .before .before .pre .1 .2) (c .before .before .spread .ensures), rest-is-heap _ _ _ _ ((c .before .before .before .pre .1 .0) .ready .barred) _ _ _ _ (c .before .before .before .pre .1 .1) (c .before .before .before .pre .1 .2) (c .before .before .spread .ensures)))
 
 serves-returns-2 : (t : ℕ) → serves-lts.Need-returns-2 (serves-uses t) (serves-at t) serves.Post
-serves-returns-2 t c = serves-both _ _ _ _ ((c .before .before .before .before .pre .1 .0) .ready .unnamed) _ _ _ _ (c .before .before .before .before .pre .1 .1) (c .before .before .before .before .pre .1 .2) (c .before .before .before .spread .ensures) _ _ _ (c .before .before .before .before .pre .1 .4) (c .before .before .parts-apart .ensures) _ (not-false _ (c .before .if1 .left)) (c .both .ensures)
+serves-returns-2 t c = serves-both _ _ _ _ ((c .before .before .before .before .pre .1 .0) .ready .barred) _ _ _ _ (c .before .before .before .before .pre .1 .1) (c .before .before .before .before .pre .1 .2) (c .before .before .before .spread .ensures) _ _ _ (c .before .before .before .before .pre .1 .4) (c .before .before .parts-apart .ensures) _ (not-false _ (c .before .if1 .left)) (c .both .ensures)
 
 abbrev split-Inv-loop : split-lts.InvT-loop
 split-Inv-loop f k b w a t m₀ m = Trying (servesAt f b k w) a m
@@ -426,7 +426,7 @@ split-element-copy-out-table : (t : ℕ) → split-lts.Need-element-copy-out-tab
 split-element-copy-out-table t c = search needs
 
 split-table-requires : (t : ℕ) → split-lts.Need-table-requires (split-uses t) (split-at t) split.Post split-Inv-loop split-μ-loop
-split-table-requires t c κs = (((c .before .before .pre .1 .0) .ready .unnamed) .small, heap-more _ _ _ ((c .before .before .pre .1 .0) .ready .fewLocs) (c .before .before .pre .1 .1))
+split-table-requires t c κs = (((c .before .before .pre .1 .0) .ready .barred) .small, heap-more _ _ _ ((c .before .before .pre .1 .0) .ready .fewLocs) (c .before .before .pre .1 .1))
 
 split-loop-holds : (t : ℕ) → split-lts.Need-loop-holds (split-uses t) (split-at t) split.Post split-Inv-loop split-μ-loop
 split-loop-holds t c = trying-first _ _
@@ -441,16 +441,16 @@ split-add-m : (t : ℕ) → split-lts.Need-add-m (split-uses t) (split-at t) spl
 split-add-m t c = omega (arith, sub-le _ _ (c .before .before .before .loop .inv .sub), c .before .before .before .before .before .before .taken .ensures .small)
 
 split-loop-less : (t : ℕ) → split-lts.Need-loop-less (split-uses t) (split-at t) split.Post split-Inv-loop split-μ-loop
-split-loop-less t c = let q = trying-next _ _ _ ((c .before .before .before .before .before .before .before .pre .1 .0) .ready .fewLocs) (c .before .before .before .before .before .before .before .pre .1 .1) (c .before .before .before .before .before .before .taken .ensures) _ (λ i e. sep-out _ _ _ _ _ _ _ e) _ (c .before .before .before .loop .inv) (c .if2 .left) (sym (c .before .before .serves .ensures) ∙ c .before .if1 .left) in omega (arith, q .0, sub-le _ _ (q .1 .sub))
+split-loop-less t c = let q = trying-next _ _ _ ((c .before .before .before .before .before .before .before .pre .1 .0) .ready .fewLocs) (c .before .before .before .before .before .before .before .pre .1 .1) (c .before .before .before .before .before .before .taken .ensures) _ (λ i e. sep-out _ _ _ _ _ _ _ _ e) _ (c .before .before .before .loop .inv) (c .if2 .left) (sym (c .before .before .serves .ensures) ∙ c .before .if1 .left) in omega (arith, q .0, sub-le _ _ (q .1 .sub))
 
 split-loop-again : (t : ℕ) → split-lts.Need-loop-again (split-uses t) (split-at t) split.Post split-Inv-loop split-μ-loop
-split-loop-again t c = trying-next _ _ _ ((c .before .before .before .before .before .before .before .pre .1 .0) .ready .fewLocs) (c .before .before .before .before .before .before .before .pre .1 .1) (c .before .before .before .before .before .before .taken .ensures) _ (λ i e. sep-out _ _ _ _ _ _ _ e) _ (c .before .before .before .loop .inv) (c .if2 .left) (sym (c .before .before .serves .ensures) ∙ c .before .if1 .left) .1
+split-loop-again t c = trying-next _ _ _ ((c .before .before .before .before .before .before .before .pre .1 .0) .ready .fewLocs) (c .before .before .before .before .before .before .before .pre .1 .1) (c .before .before .before .before .before .before .taken .ensures) _ (λ i e. sep-out _ _ _ _ _ _ _ _ e) _ (c .before .before .before .loop .inv) (c .if2 .left) (sym (c .before .before .serves .ensures) ∙ c .before .if1 .left) .1
 
 split-returns : (t : ℕ) → split-lts.Need-returns (split-uses t) (split-at t) split.Post split-Inv-loop split-μ-loop
-split-returns t c = trying-found _ _ _ ((c .before .before .before .before .before .before .pre .1 .0) .ready .fewLocs) (c .before .before .before .before .before .before .pre .1 .1) (c .before .before .before .before .before .taken .ensures) _ (λ i e. sep-out _ _ _ _ _ _ _ e) _ (c .before .before .loop .inv) (sym (c .before .serves .ensures) ∙ c .if1 .taken)
+split-returns t c = trying-found _ _ _ ((c .before .before .before .before .before .before .pre .1 .0) .ready .fewLocs) (c .before .before .before .before .before .before .pre .1 .1) (c .before .before .before .before .before .taken .ensures) _ (λ i e. sep-out _ _ _ _ _ _ _ _ e) _ (c .before .before .loop .inv) (sym (c .before .serves .ensures) ∙ c .if1 .taken)
 
 split-returns-2 : (t : ℕ) → split-lts.Need-returns-2 (split-uses t) (split-at t) split.Post split-Inv-loop split-μ-loop
-split-returns-2 t c = trying-none _ _ _ ((c .before .before .before .before .before .before .before .pre .1 .0) .ready .fewLocs) (c .before .before .before .before .before .before .before .pre .1 .1) (c .before .before .before .before .before .before .taken .ensures) _ (λ i e. sep-out _ _ _ _ _ _ _ e) _ (c .before .before .before .loop .inv) (c .if2 .taken) (sym (c .before .before .serves .ensures) ∙ c .before .if1 .left)
+split-returns-2 t c = trying-none _ _ _ ((c .before .before .before .before .before .before .before .pre .1 .0) .ready .fewLocs) (c .before .before .before .before .before .before .before .pre .1 .1) (c .before .before .before .before .before .before .taken .ensures) _ (λ i e. sep-out _ _ _ _ _ _ _ _ e) _ (c .before .before .before .loop .inv) (c .if2 .taken) (sym (c .before .before .serves .ensures) ∙ c .before .if1 .left)
 
 pub +a-holds+added+b-holds+both+child-holds+digit+fill+join+serves+split-spec :
     {M : Type 1} → statement M

@@ -10,20 +10,29 @@ table-of-requires c κs = search needs
 sub-last : tie.Need-sub-last
 sub-last c = search needs
 
-unnamed-requires : tie.Need-unnamed-requires
-unnamed-requires c κs = search needs
+barred-requires : tie.Need-barred-requires
+barred-requires c κs = search needs
+
+number-requires : tie.Need-number-requires
+number-requires c κs = search needs
 
 fits-requires : tie.Need-fits-requires
 fits-requires c κs =
-    let b = c .before .before .before .before .before in
+    let b = c .before .before .before .before .before .before in
     let a = b .args in
-    (ready (a .v) (a .n) (a .p) (a .f .now) (c .before .before .before .table-of .result) (c .before .before .before .table-of .ensures) (a .stack) (a .heap) (c .before .before .unnamed .result) (b .pre) (c .before .before .unnamed .ensures), b .pre .heap)
+    let t = c .before .before .before .before .table-of in
+    let u = c .before .before .before .barred in
+    let x = c .before .before .number in
+    (ready (a .profile) (x .result) (x .ensures) (a .v) (a .n) (a .p) (a .f .now) (t .result) (t .ensures) (a .stack) (a .heap) (u .result) (b .pre) (u .ensures), b .pre .heap)
 
 returns : tie.Need-returns
 returns c =
-    let b = c .before .before .before .before .before .before in
+    let b = c .before .before .before .before .before .before .before in
     let a = b .args in
-    core-fits (a .v) (a .n) (a .p) (a .f .now) (c .before .before .before .before .table-of .result) (c .before .before .before .before .table-of .ensures) (a .stack) (a .heap) (c .before .before .before .unnamed .result) (b .pre) (c .before .before .before .unnamed .ensures) (c .fits2 .result) (c .fits2 .ensures)
+    let t = c .before .before .before .before .before .table-of in
+    let u = c .before .before .before .before .barred in
+    let x = c .before .before .before .number in
+    core-fits (a .profile) (x .result) (x .ensures) (a .v) (a .n) (a .p) (a .f .now) (t .result) (t .ensures) (a .stack) (a .heap) (u .result) (b .pre) (u .ensures) (c .fits2 .result) (c .fits2 .ensures)
 
 pub fits-spec : {M : Type 1} → statement M
 fits-spec =
@@ -31,6 +40,7 @@ fits-spec =
     (tie.spec
     table-of-requires
     sub-last
-    unnamed-requires
+    barred-requires
+    number-requires
     fits-requires
     returns)

@@ -17,7 +17,7 @@ returns : tie.Need-returns
 returns c =
     let a = c .before .before .before .before .before .before .args in
     let o = c .before .before .before .«open» in
-    judges-book (a .book .now) (a .model .now) (o .result .answer) (o .ensures .answer) (c .if1 .taken)
+    judges-book (a .profile) (a .book .now) (a .model .now) (o .result .answer) (o .ensures .answer) (c .if1 .taken)
 
 part-requires : tie.Need-part-requires
 part-requires c κs =
@@ -39,7 +39,7 @@ returns-2 c =
     let f = c .before .before .before .before .part in
     let q = opened (a .book .now) (f .result .now) (o .result .answer) (o .result .v) (o .result .n) (o .result .p) (o .ensures) (c .before .before .before .before .before .if1 .left) (f .ensures) in
     let m = c .before .before .before .pack in
-    judges-range (a .book .now) (f .result .now) (a .model .now) (o .result .v) (o .result .n) (o .result .p) q (m .result .answer) (m .ensures .answer) (c .if2 .taken)
+    judges-range (a .profile) (a .book .now) (f .result .now) (a .model .now) (o .result .v) (o .result .n) (o .result .p) q (m .result .answer) (m .ensures .answer) (c .if2 .taken)
 
 fits-requires : tie.Need-fits-requires
 fits-requires c κs =
@@ -49,7 +49,7 @@ fits-requires c κs =
     let q = opened (a .book .now) (f .result .now) (o .result .answer) (o .result .v) (o .result .n) (o .result .p) (o .ensures) (c .before .before .before .before .before .if1 .left) (f .ensures) in
     let m = c .before .before .before .pack in
     let small : (i : ℕ) → getD (a .model .now) i 0 < 256 = λ i. omega (arith, c .before .before .before .before .before .before .before .before .before .shared-slice-known2 .given i) in
-    judged (a .book .now) (f .result .now) (a .model .now) (o .result .v) (o .result .n) (o .result .p) q small (model-passes _ _ (a .model .now) (m .result .answer) (m .ensures .answer) (c .if2 .left)) (m .result .stack) (m .result .heap) (m .ensures .stack (c .if2 .left)) (m .ensures .heap (c .if2 .left))
+    judged (a .profile) (a .book .now) (f .result .now) (a .model .now) (o .result .v) (o .result .n) (o .result .p) q small (model-passes _ _ (a .model .now) (m .result .answer) (m .ensures .answer) (c .if2 .left)) (m .result .stack) (m .result .heap) (m .ensures .stack (c .if2 .left)) (m .ensures .heap (c .if2 .left))
 
 answer-of-requires : tie.Need-answer-of-requires
 answer-of-requires c κs = search needs
@@ -65,7 +65,7 @@ returns-3 c =
     let q = opened (a .book .now) (f .result .now) (o .result .answer) (o .result .v) (o .result .n) (o .result .p) (o .ensures) (c .before .before .before .before .before .before .before .before .if1 .left) (f .ensures) in
     let m = c .before .before .before .before .before .before .pack in
     let small : (i : ℕ) → getD (a .model .now) i 0 < 256 = λ i. omega (arith, c .before .before .before .before .before .before .before .before .before .before .before .before .shared-slice-known2 .given i) in
-    judges-verdict (a .book .now) (f .result .now) (a .model .now) (o .result .v) (o .result .n) (o .result .p) q small (model-passes _ _ (a .model .now) (m .result .answer) (m .ensures .answer) (c .before .before .before .if2 .left)) (m .result .stack) (m .result .heap) (m .ensures .stack (c .before .before .before .if2 .left)) (m .ensures .heap (c .before .before .before .if2 .left)) (c .answer-of .result)
+    judges-verdict (a .profile) (a .book .now) (f .result .now) (a .model .now) (o .result .v) (o .result .n) (o .result .p) q small (model-passes _ _ (a .model .now) (m .result .answer) (m .ensures .answer) (c .before .before .before .if2 .left)) (m .result .stack) (m .result .heap) (m .ensures .stack (c .before .before .before .if2 .left)) (m .ensures .heap (c .before .before .before .if2 .left)) (c .answer-of .result)
     (inl (c .before .before .fits2 .ensures .to (c .before .if3 .taken), c .answer-of .ensures))
 
 returns-4 : tie.Need-returns-4
@@ -76,7 +76,7 @@ returns-4 c =
     let q = opened (a .book .now) (f .result .now) (o .result .answer) (o .result .v) (o .result .n) (o .result .p) (o .ensures) (c .before .before .before .before .before .before .before .before .if1 .left) (f .ensures) in
     let m = c .before .before .before .before .before .before .pack in
     let small : (i : ℕ) → getD (a .model .now) i 0 < 256 = λ i. omega (arith, c .before .before .before .before .before .before .before .before .before .before .before .before .shared-slice-known2 .given i) in
-    judges-verdict (a .book .now) (f .result .now) (a .model .now) (o .result .v) (o .result .n) (o .result .p) q small (model-passes _ _ (a .model .now) (m .result .answer) (m .ensures .answer) (c .before .before .before .if2 .left)) (m .result .stack) (m .result .heap) (m .ensures .stack (c .before .before .before .if2 .left)) (m .ensures .heap (c .before .before .before .if2 .left)) (c .answer-of2 .result)
+    judges-verdict (a .profile) (a .book .now) (f .result .now) (a .model .now) (o .result .v) (o .result .n) (o .result .p) q small (model-passes _ _ (a .model .now) (m .result .answer) (m .ensures .answer) (c .before .before .before .if2 .left)) (m .result .stack) (m .result .heap) (m .ensures .stack (c .before .before .before .if2 .left)) (m .ensures .heap (c .before .before .before .if2 .left)) (c .answer-of2 .result)
     (inr (fails (c .before .before .fits2 .result) (c .before .before .fits2 .ensures) (c .before .if3 .left), c .answer-of2 .ensures))
 
 pub judge-spec : {M : Type 1} → statement M

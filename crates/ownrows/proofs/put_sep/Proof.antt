@@ -1,6 +1,9 @@
 -- `ownrows::put_sep` meets its contract. Assumes nothing.
 use borrow.Author.Needs.{needs}
+use mathlib.Core.Path.{_∙_}
+use Prim.Native.Nat.{_+_}
 use native.Mathlib.Omega.{arith}
+use Rattle.rows.specs.Table.{apartRows}
 use Rattle.rowbytes.specs.WrittenLaws.{row-after, space-less, space-after}
 use Rattle.ownrows.specs.OwnRowLaws.{sep-rows}
 use Rattle.ownrows.proofs.put_sep.Statement.{statement}
@@ -26,24 +29,26 @@ put-also-requires c κs =
     let q = c .before .before .before .before .put-and in
     (omega (arith, row-after (q .ensures)), space-after 2 _ (q .ensures) (space-less 3 (c .before .before .before .before .before .before .before .before .pre .3) (omega arith)) (q .kept .0))
 
-add-plain-2 : tie.Need-add-plain-2
-add-plain-2 c = search needs
+add-put-apart : tie.Need-add-put-apart
+add-put-apart c = search needs
 
-plain-requires-2 : tie.Need-plain-requires-2
-plain-requires-2 c κs = search needs
-
-put-also-requires-2 : tie.Need-put-also-requires-2
-put-also-requires-2 c κs =
-    let q = c .before .before .before .before .before .before .before .before .before .put-and in
-    let r = c .before .before .before .before .put-also in
-    let h = space-after 4 _ (q .ensures) (c .before .before .before .before .before .before .before .before .before .before .before .before .before .pre .3) (q .kept .0) in
-    (omega (arith, row-after (r .ensures)), space-after 2 _ (r .ensures) h (r .kept .0))
+put-apart-requires : tie.Need-put-apart-requires
+put-apart-requires c κs =
+    let b = c .before .before .before .before .before .before .before .before .before .before .before .before in
+    let q = c .before .before .before .before .before .before .before .before .put-and in
+    let r = c .before .before .before .put-also in
+    let k = apartRows (b .args .profile) in
+    let h = space-after (2 + k) _ (q .ensures) (space-less (1 + (2 + k)) (b .pre .3) (omega arith)) (q .kept .0) in
+    (omega (arith, row-after (r .ensures)), space-after k _ (r .ensures) h (r .kept .0))
 
 same-length : tie.Need-same-length
-same-length c = search needs
+same-length c = c .before .before .put-apart .kept .0 ∙ c .before .before .before .before .before .before .put-also .kept .0 ∙ c .before .before .before .before .before .before .before .before .before .before .before .put-and .kept .0
 
 returns : tie.Need-returns
-returns c = sep-rows _ _ _ _ (c .before .before .before .before .before .before .before .before .before .before .before .before .before .before .before .before .pre .3) (c .before .before .before .before .before .before .before .before .before .before .before .before .put-and .ensures) (c .before .before .before .before .before .before .before .before .plain .ensures) (c .before .before .before .before .before .before .before .put-also .ensures) (c .before .before .before .plain2 .ensures) (c .before .before .put-also2 .ensures)
+returns c =
+    let b = c .before .before .before .before .before .before .before .before .before .before .before .before .before .before .before in
+    let a = b .args in
+    sep-rows (a .profile) (a .s) (a .i) (a .l) (a .a) (b .pre .3) (c .before .before .before .before .before .before .before .before .before .before .before .put-and .ensures) (c .before .before .before .before .before .before .before .plain .ensures) (c .before .before .before .before .before .before .put-also .ensures) (c .before .before .put-apart .ensures)
 
 pub put-sep-spec : {M : Type 1} → statement M
 put-sep-spec =
@@ -55,8 +60,7 @@ put-sep-spec =
     add-plain
     plain-requires
     put-also-requires
-    add-plain-2
-    plain-requires-2
-    put-also-requires-2
+    add-put-apart
+    put-apart-requires
     same-length
     returns)

@@ -23,7 +23,7 @@ put-lines-requires c κs =
     let q = c .before .before .before .before .search in
     let o = c .before .before .«open» in
     let low = bounds-low s (o .result .answer) (o .result .v) (o .result .n) (o .result .p) (o .ensures) in
-    let places = searched-locations s (q .result) (q .last .1 .1 .0) (q .ensures) (o .result .answer) (o .result .v) (o .result .n) (o .result .p) (o .ensures) in
+    let places = searched-locations s (q .result) (q .last .1 .1 .1 .0) (q .ensures) (o .result .answer) (o .result .v) (o .result .n) (o .result .p) (o .ensures) in
     (low .0, low .1, omega arith, places, search needs)
 
 returns : tie.Need-returns
@@ -31,7 +31,7 @@ returns c =
     let s = c .before .before .before .before .before .before .before .before .args .book .now in
     let q = c .before .before .before .before .before .search in
     let o = c .before .before .before .«open» in
-    printed-at-front s (q .result) (q .last .1 .1 .0) (q .ensures) (o .result .answer) (o .result .v) (o .result .n) (o .result .p) (o .ensures) (c .put-lines .ensures)
+    printed-at-front s (q .result) (q .last .1 .1 .1 .0) (q .ensures) (o .result .answer) (o .result .v) (o .result .n) (o .result .p) (o .ensures) (c .put-lines .ensures)
 
 pub put-printed-spec : {M : Type 1} → statement M
 put-printed-spec =

@@ -40,28 +40,28 @@ returns : tie.Need-returns
 returns c =
     let a = c .before .before .before .before .before .before .before .args in
     let z = c .before .before .before .before .before .before .before .pre in
-    is-same-atom _ _ _ _ _ _ _ _ _ _ _ _ (c .before .before .before .before .before .heap-at .ensures .0) (c .before .before .match .keys1) (location-is (a .g) (a .q .now) (a .arrays .now) (z .0) _ _ (c .before .before .before .before .cell .ensures)) (location-is (a .g) (a .q .now) (a .arrays .now) (z .0) _ _ (c .before .before .before .cell2 .ensures)) (c .and .ensures)
+    is-same-atom _ _ _ _ _ _ _ _ _ _ _ _ _ (c .before .before .before .before .before .heap-at .ensures .0) (c .before .before .match .keys1) (location-is (a .g) (a .q .now) (a .arrays .now) (z .0) _ _ (c .before .before .before .before .cell .ensures)) (location-is (a .g) (a .q .now) (a .arrays .now) (z .0) _ _ (c .before .before .before .cell2 .ensures)) (c .and .ensures)
     (c .before .is-empty .ensures)
 
 returns-2 : tie.Need-returns-2
 returns-2 c =
     let a = c .before .before .before .before .before .before .before .args in
     let z = c .before .before .before .before .before .before .before .pre in
-    is-diff-atom _ _ _ _ _ _ _ _ _ _ _ _ (c .before .before .before .before .before .heap-at .ensures .0) (c .before .before .match .keys2) (location-is (a .g) (a .q .now) (a .arrays .now) (z .0) _ _ (c .before .before .before .before .cell .ensures)) (location-is (a .g) (a .q .now) (a .arrays .now) (z .0) _ _ (c .before .before .before .cell2 .ensures)) (c .and2 .ensures)
+    is-diff-atom _ _ _ _ _ _ _ _ _ _ _ _ _ (c .before .before .before .before .before .heap-at .ensures .0) (c .before .before .match .keys2) (location-is (a .g) (a .q .now) (a .arrays .now) (z .0) _ _ (c .before .before .before .before .cell .ensures)) (location-is (a .g) (a .q .now) (a .arrays .now) (z .0) _ _ (c .before .before .before .cell2 .ensures)) (c .and2 .ensures)
     (c .before .is-empty2 .ensures)
 
 returns-3 : tie.Need-returns-3
 returns-3 c =
     let a = c .before .before .before .before .before .before .args in
     let z = c .before .before .before .before .before .before .pre in
-    is-pts-atom _ _ _ _ _ _ _ _ _ _ _ (c .before .before .before .before .heap-at .ensures .0) (c .before .match .keys3) (location-is (a .g) (a .q .now) (a .arrays .now) (z .0) _ _ (c .before .before .before .cell .ensures)) (location-is (a .g) (a .q .now) (a .arrays .now) (z .0) _ _ (c .before .before .cell2 .ensures))
+    is-pts-atom _ _ _ _ _ _ _ _ _ _ _ _ (c .before .before .before .before .heap-at .ensures .0) (c .before .match .keys3) (location-is (a .g) (a .q .now) (a .arrays .now) (z .0) _ _ (c .before .before .before .cell .ensures)) (location-is (a .g) (a .q .now) (a .arrays .now) (z .0) _ _ (c .before .before .cell2 .ensures))
     (c .is-points .ensures)
 
 returns-4 : tie.Need-returns-4
 returns-4 c =
     let a = c .before .before .before .before .before .before .args in
     let z = c .before .before .before .before .before .before .pre in
-    is-ls-atom _ _ _ _ _ _ _ _ _ _ _ (c .before .before .before .before .heap-at .ensures .0) (omega arith) (location-is (a .g) (a .q .now) (a .arrays .now) (z .0) _ _ (c .before .before .before .cell .ensures)) (location-is (a .g) (a .q .now) (a .arrays .now) (z .0) _ _ (c .before .before .cell2 .ensures))
+    is-ls-atom _ _ _ _ _ _ _ _ _ _ _ _ (c .before .before .before .before .heap-at .ensures .0) (omega arith) (location-is (a .g) (a .q .now) (a .arrays .now) (z .0) _ _ (c .before .before .before .cell .ensures)) (location-is (a .g) (a .q .now) (a .arrays .now) (z .0) _ _ (c .before .before .cell2 .ensures))
     (c .is-list .ensures)
 
 pub atom-spec : {M : Type 1} → statement M

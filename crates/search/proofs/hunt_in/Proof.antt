@@ -19,7 +19,7 @@ hunt-requires c κs =
 returns : tie.Need-returns
 returns c =
     let a = c .before .before .before .before .args in
-    hunted-in (a .v) (a .n) (a .f .now) (c .before .before .table-of .result) (c .before .before .table-of .ensures) (a .p) (a .budget) _ _ (c .hunt .ensures)
+    hunted-in (a .v) (a .n) (a .f .now) (c .before .before .table-of .result) (c .before .before .table-of .ensures) (a .profile) (a .p) (a .budget) _ _ (c .hunt .ensures)
 
 pub hunt-in-spec : {M : Type 1} → statement M
 hunt-in-spec = tie.close (tie.spec table-of-requires sub-hunt hunt-requires returns)

@@ -3,6 +3,7 @@ use borrow.Author.Needs.{needs}
 use Prim.Native.Nat.{ℕ, _+_, _*_, _<_, _≤_}
 use native.Mathlib.Omega.{arith}
 use Rattle.logic.specs.Table.{opOf, tree}
+use Rattle.rows.specs.Table.{apartRows}
 use Rattle.rows.specs.TableLaws.{rows-some}
 use Rattle.rowbytes.specs.WrittenLaws.{row-after, space-after}
 use Rattle.logic.specs.KnownLaws.{operator-some, lower}
@@ -31,13 +32,13 @@ use Rattle.treerows.proofs.+both+join+node.{statement}
 use Rattle.treerows.proofs.+both+join+node.Tie.{close}
 
 abbrev μ-both : Measures 2 both-kinds.ps ℕ
-μ-both κs a = 3 * (a .1 .1 .1 .0)
+μ-both κs a = 3 * (a .1 .1 .1 .1 .0)
 
 abbrev μ-join : Measures 2 join-kinds.ps ℕ
-μ-join κs a = 3 * (a .1 .1 .1 .0) + 1
+μ-join κs a = 3 * (a .1 .1 .1 .1 .0) + 1
 
 abbrev μ-node : Measures 2 node-kinds.ps ℕ
-μ-node κs a = 3 * (a .1 .1 .1 .0) + 2
+μ-node κs a = 3 * (a .1 .1 .1 .1 .0) + 2
 
 abbrev both-at : ℕ → In 2 both-kinds.ps
 both-at t = and 2 both-kinds.ps (is 2 both-kinds.ps μ-both t) both.Pre
@@ -69,12 +70,12 @@ node-uses t = (short-reads.Asked, short-reads.Learnt, put-atom-reads.Asked, put-
 both-node-requires :
     (t : ℕ) → both-lts.Need-node-requires (both-uses t) (both-at t) both.Post
 both-node-requires t c κs =
-    let z = c .before .before .before .pre .1 in (omega (arith, c .before .before .before .pre .0), (omega (arith, z .0, z .1), z .3, z .4, room-first _ _ _ _ _ (z .5)))
+    let z = c .before .before .before .pre .1 in (omega (arith, c .before .before .before .pre .0), (omega (arith, z .0, z .1), z .3, z .4, room-first _ _ _ _ _ _ (z .5)))
 
 both-node-requires-2 :
     (t : ℕ) → both-lts.Need-node-requires-2 (both-uses t) (both-at t) both.Post
 both-node-requires-2 t c κs =
-    let z = c .before .before .before .before .before .before .before .pre .1 in (omega (arith, c .before .before .before .before .before .before .before .pre .0), (omega (arith, z .0, z .2), z .3, z .4, room-second _ _ _ _ _ _ _ _ _ _ (z .5) (c .before .before .before .node .ensures) (c .before .before .before .node .kept .0)))
+    let z = c .before .before .before .before .before .before .before .pre .1 in (omega (arith, c .before .before .before .before .before .before .before .pre .0), (omega (arith, z .0, z .2), z .3, z .4, room-second _ _ _ _ _ _ _ _ _ _ _ (z .5) (c .before .before .before .node .ensures) (c .before .before .before .node .kept .0)))
 
 both-same-length :
     (t : ℕ) → both-lts.Need-same-length (both-uses t) (both-at t) both.Post
@@ -82,137 +83,137 @@ both-same-length t c = search needs
 
 both-returns : (t : ℕ) → both-lts.Need-returns (both-uses t) (both-at t) both.Post
 both-returns t c =
-    two-trees _ _ _ _ _ _ (room-first _ _ _ _ _ (c .before .before .before .before .before .before .before .before .before .before .pre .1 .5) .space) (c .before .before .before .before .before .before .node .ensures) (c .before .before .node2 .ensures)
+    two-trees _ _ _ _ _ _ _ (room-first _ _ _ _ _ _ (c .before .before .before .before .before .before .before .before .before .before .pre .1 .5) .space) (c .before .before .before .before .before .before .node .ensures) (c .before .before .node2 .ensures)
 
 join-both-requires : (t : ℕ) → join-lts.Need-both-requires (join-uses t) (join-at t) join.Post
 join-both-requires t c κs =
-    let z = c .before .before .before .before .pre .1 in (omega (arith, c .before .before .before .before .pre .0), (z .0, z .1, z .2, z .5, z .6, room-none _ _ _ _ _ 1 (room-conj _ _ _ _ _ _ (z .7) (c .before .match .keys1))))
+    let z = c .before .before .before .before .pre .1 in (omega (arith, c .before .before .before .before .pre .0), (z .0, z .1, z .2, z .5, z .6, room-none _ _ _ _ _ _ 1 (room-conj _ _ _ _ _ _ _ (z .7) (c .before .match .keys1))))
 
 join-sub-put-and : (t : ℕ) → join-lts.Need-sub-put-and (join-uses t) (join-at t) join.Post
 join-sub-put-and t c =
-    omega (arith, first-some _ _ _ (c .before .before .before .before .both .ensures))
+    omega (arith, first-some _ _ _ _ (c .before .before .before .before .both .ensures))
 
 join-sub-put-and-2 : (t : ℕ) → join-lts.Need-sub-put-and-2 (join-uses t) (join-at t) join.Post
 join-sub-put-and-2 t c =
-    omega (arith, next-some _ _ _ (c .before .before .before .before .before .both .ensures))
+    omega (arith, next-some _ _ _ _ (c .before .before .before .before .before .both .ensures))
 
 join-put-and-requires : (t : ℕ) → join-lts.Need-put-and-requires (join-uses t) (join-at t) join.Post
 join-put-and-requires t c κs =
-    space-after 1 _ (c .before .before .before .before .before .both .ensures .puts) (room-conj _ _ _ _ _ _ (c .before .before .before .before .before .before .before .before .before .before .pre .1 .7) (c .before .before .before .before .before .before .before .match .keys1) .space) (c .before .before .before .before .before .both .kept .0)
+    space-after 1 _ (c .before .before .before .before .before .both .ensures .puts) (room-conj _ _ _ _ _ _ _ (c .before .before .before .before .before .before .before .before .before .before .pre .1 .7) (c .before .before .before .before .before .before .before .match .keys1) .space) (c .before .before .before .before .before .both .kept .0)
 
 join-both-requires-2 : (t : ℕ) → join-lts.Need-both-requires-2 (join-uses t) (join-at t) join.Post
 join-both-requires-2 t c κs =
-    let z = c .before .before .before .before .pre .1 in (omega (arith, c .before .before .before .before .pre .0), (z .0, z .1, z .2, z .5, z .6, room-none _ _ _ _ _ 1 (room-disj _ _ _ _ _ _ (z .7) (c .before .match .keys2))))
+    let z = c .before .before .before .before .pre .1 in (omega (arith, c .before .before .before .before .pre .0), (z .0, z .1, z .2, z .5, z .6, room-none _ _ _ _ _ _ 1 (room-disj _ _ _ _ _ _ _ (z .7) (c .before .match .keys2))))
 
 join-sub-put-or : (t : ℕ) → join-lts.Need-sub-put-or (join-uses t) (join-at t) join.Post
 join-sub-put-or t c =
-    omega (arith, first-some _ _ _ (c .before .before .before .before .both2 .ensures))
+    omega (arith, first-some _ _ _ _ (c .before .before .before .before .both2 .ensures))
 
 join-sub-put-or-2 : (t : ℕ) → join-lts.Need-sub-put-or-2 (join-uses t) (join-at t) join.Post
 join-sub-put-or-2 t c =
-    omega (arith, next-some _ _ _ (c .before .before .before .before .before .both2 .ensures))
+    omega (arith, next-some _ _ _ _ (c .before .before .before .before .before .both2 .ensures))
 
 join-put-or-requires : (t : ℕ) → join-lts.Need-put-or-requires (join-uses t) (join-at t) join.Post
 join-put-or-requires t c κs =
-    space-after 1 _ (c .before .before .before .before .before .both2 .ensures .puts) (room-disj _ _ _ _ _ _ (c .before .before .before .before .before .before .before .before .before .before .pre .1 .7) (c .before .before .before .before .before .before .before .match .keys2) .space) (c .before .before .before .before .before .both2 .kept .0)
+    space-after 1 _ (c .before .before .before .before .before .both2 .ensures .puts) (room-disj _ _ _ _ _ _ _ (c .before .before .before .before .before .before .before .before .before .before .pre .1 .7) (c .before .before .before .before .before .before .before .match .keys2) .space) (c .before .before .before .before .before .both2 .kept .0)
 
 join-both-requires-3 : (t : ℕ) → join-lts.Need-both-requires-3 (join-uses t) (join-at t) join.Post
 join-both-requires-3 t c κs =
-    let z = c .before .before .before .before .pre .1 in (omega (arith, c .before .before .before .before .pre .0), (z .0, z .1, z .2, z .5, z .6, room-none _ _ _ _ _ 2 (room-but _ _ _ _ _ _ (z .7) (c .before .match .keys3))))
+    let z = c .before .before .before .before .pre .1 in (omega (arith, c .before .before .before .before .pre .0), (z .0, z .1, z .2, z .5, z .6, room-none _ _ _ _ _ _ 2 (room-but _ _ _ _ _ _ _ (z .7) (c .before .match .keys3))))
 
 join-put-but-requires : (t : ℕ) → join-lts.Need-put-but-requires (join-uses t) (join-at t) join.Post
 join-put-but-requires t c κs =
-    let q = c .before .before .before .both3 in (first-some _ _ _ (q .ensures), next-some _ _ _ (q .ensures), space-after 2 _ (q .ensures .puts) (room-but _ _ _ _ _ _ (c .before .before .before .before .before .before .before .before .pre .1 .7) (c .before .before .before .before .before .match .keys3) .space) (q .kept .0))
+    let q = c .before .before .before .both3 in (first-some _ _ _ _ (q .ensures), next-some _ _ _ _ (q .ensures), space-after 2 _ (q .ensures .puts) (room-but _ _ _ _ _ _ _ (c .before .before .before .before .before .before .before .before .pre .1 .7) (c .before .before .before .before .before .match .keys3) .space) (q .kept .0))
 
 join-node-requires : (t : ℕ) → join-lts.Need-node-requires (join-uses t) (join-at t) join.Post
 join-node-requires t c κs =
-    let z = c .before .before .before .before .pre .1 in (omega (arith, c .before .before .before .before .pre .0), (omega (arith, z .0, z .1), z .5, z .6, room-neg _ _ _ _ _ _ (z .7) (c .before .match .keys4) .0))
+    let z = c .before .before .before .before .pre .1 in (omega (arith, c .before .before .before .before .pre .0), (omega (arith, z .0, z .1), z .5, z .6, room-neg _ _ _ _ _ _ _ (z .7) (c .before .match .keys4) .0))
 
 join-sub-put-not : (t : ℕ) → join-lts.Need-sub-put-not (join-uses t) (join-at t) join.Post
 join-sub-put-not t c =
-    let a = c .before .before .before .before .before .before .before .before .before .args in omega (arith, row-after (c .before .before .before .before .node .ensures), rows-some (a .n) (tree (a .f .now) (a .x)))
+    let a = c .before .before .before .before .before .before .before .before .before .args in omega (arith, row-after (c .before .before .before .before .node .ensures), rows-some (a .profile) (a .n) (tree (a .f .now) (a .x)))
 
 join-put-not-requires : (t : ℕ) → join-lts.Need-put-not-requires (join-uses t) (join-at t) join.Post
 join-put-not-requires t c κs =
-    space-after 1 _ (c .before .before .before .before .node .ensures) (room-neg _ _ _ _ _ _ (c .before .before .before .before .before .before .before .before .before .pre .1 .7) (c .before .before .before .before .before .before .match .keys4) .1) (c .before .before .before .before .node .kept .0)
+    space-after 1 _ (c .before .before .before .before .node .ensures) (room-neg _ _ _ _ _ _ _ (c .before .before .before .before .before .before .before .before .before .pre .1 .7) (c .before .before .before .before .before .before .match .keys4) .1) (c .before .before .before .before .node .kept .0)
 
 join-add-both : (t : ℕ) → join-lts.Need-add-both (join-uses t) (join-at t) join.Post
 join-add-both t c =
-    omega (arith, room-sep _ _ _ _ _ _ (c .before .before .before .pre .1 .7) (c .match .keys5) .1)
+    omega (arith, room-sep _ _ _ _ _ _ _ (c .before .before .before .pre .1 .7) (c .match .keys5) .1)
 
 join-add-both-2 : (t : ℕ) → join-lts.Need-add-both-2 (join-uses t) (join-at t) join.Post
 join-add-both-2 t c =
-    omega (arith, room-sep _ _ _ _ _ _ (c .before .before .before .before .pre .1 .7) (c .before .match .keys5) .1)
+    omega (arith, room-sep _ _ _ _ _ _ _ (c .before .before .before .before .pre .1 .7) (c .before .match .keys5) .1)
 
 join-both-requires-4 : (t : ℕ) → join-lts.Need-both-requires-4 (join-uses t) (join-at t) join.Post
 join-both-requires-4 t c κs =
-    let z = c .before .before .before .before .pre .1 in (omega (arith, c .before .before .before .before .pre .0), (z .0, z .1, z .2, z .5, z .6, room-none _ _ _ _ _ 5 (room-sep _ _ _ _ _ _ (z .7) (c .before .match .keys5) .0)))
+    let z = c .before .before .before .before .pre .1 in (omega (arith, c .before .before .before .before .pre .0), (z .0, z .1, z .2, z .5, z .6, room-none _ _ _ _ _ _ _ (room-sep _ _ _ _ _ _ _ (z .7) (c .before .match .keys5) .0)))
 
 join-put-sep-requires : (t : ℕ) → join-lts.Need-put-sep-requires (join-uses t) (join-at t) join.Post
 join-put-sep-requires t c κs =
-    let q = c .before .before .before .both4 in let r = room-sep _ _ _ _ _ _ (c .before .before .before .before .before .before .before .before .pre .1 .7) (c .before .before .before .before .before .match .keys5) in (first-some _ _ _ (q .ensures), next-some _ _ _ (q .ensures), omega (arith, r .1), space-after 5 _ (q .ensures .puts) (r .0 .space) (q .kept .0))
+    let q = c .before .before .before .both4 in let r = room-sep _ _ _ _ _ _ _ (c .before .before .before .before .before .before .before .before .pre .1 .7) (c .before .before .before .before .before .match .keys5) in (first-some _ _ _ _ (q .ensures), next-some _ _ _ _ (q .ensures), omega (arith, r .1), space-after (3 + apartRows (c .before .before .before .before .before .before .before .before .args .profile)) _ (q .ensures .puts) (r .0 .space) (q .kept .0))
 
 join-add-both-3 : (t : ℕ) → join-lts.Need-add-both-3 (join-uses t) (join-at t) join.Post
 join-add-both-3 t c =
-    omega (arith, room-sept _ _ _ _ _ _ (c .before .before .before .pre .1 .7) (omega arith) .1, room-sept _ _ _ _ _ _ (c .before .before .before .pre .1 .7) (omega arith) .2)
+    omega (arith, room-sept _ _ _ _ _ _ _ (c .before .before .before .pre .1 .7) (omega arith) .1, room-sept _ _ _ _ _ _ _ (c .before .before .before .pre .1 .7) (omega arith) .2)
 
-join-add-t50 : (t : ℕ) → join-lts.Need-add-t50 (join-uses t) (join-at t) join.Post
-join-add-t50 t c =
-    omega (arith, room-sept _ _ _ _ _ _ (c .before .before .before .pre .1 .7) (omega arith) .1, room-sept _ _ _ _ _ _ (c .before .before .before .pre .1 .7) (omega arith) .2)
+join-add-t51 : (t : ℕ) → join-lts.Need-add-t51 (join-uses t) (join-at t) join.Post
+join-add-t51 t c =
+    omega (arith, room-sept _ _ _ _ _ _ _ (c .before .before .before .pre .1 .7) (omega arith) .1, room-sept _ _ _ _ _ _ _ (c .before .before .before .pre .1 .7) (omega arith) .2)
 
 join-add-both-4 : (t : ℕ) → join-lts.Need-add-both-4 (join-uses t) (join-at t) join.Post
 join-add-both-4 t c =
-    omega (arith, room-sept _ _ _ _ _ _ (c .before .before .before .before .pre .1 .7) (omega arith) .1)
+    omega (arith, room-sept _ _ _ _ _ _ _ (c .before .before .before .before .pre .1 .7) (omega arith) .1)
 
 join-both-requires-5 : (t : ℕ) → join-lts.Need-both-requires-5 (join-uses t) (join-at t) join.Post
 join-both-requires-5 t c κs =
-    let z = c .before .before .before .before .pre .1 in (omega (arith, c .before .before .before .before .pre .0), (z .0, z .1, z .2, z .5, z .6, room-none _ _ _ _ _ 7 (room-sept _ _ _ _ _ _ (z .7) (omega arith) .0)))
+    let z = c .before .before .before .before .pre .1 in (omega (arith, c .before .before .before .before .pre .0), (z .0, z .1, z .2, z .5, z .6, room-none _ _ _ _ _ _ _ (room-sept _ _ _ _ _ _ _ (z .7) (omega arith) .0)))
 
 join-put-sept-requires : (t : ℕ) → join-lts.Need-put-sept-requires (join-uses t) (join-at t) join.Post
 join-put-sept-requires t c κs =
-    let q = c .before .before .before .both5 in let r = room-sept _ _ _ _ _ _ (c .before .before .before .before .before .before .before .before .pre .1 .7) (omega arith) in (first-some _ _ _ (q .ensures), next-some _ _ _ (q .ensures), omega (arith, r .1), space-after 7 _ (q .ensures .puts) (r .0 .space) (q .kept .0))
+    let q = c .before .before .before .both5 in let r = room-sept _ _ _ _ _ _ _ (c .before .before .before .before .before .before .before .before .pre .1 .7) (omega arith) in (first-some _ _ _ _ (q .ensures), next-some _ _ _ _ (q .ensures), omega (arith, r .1), space-after (5 + apartRows (c .before .before .before .before .before .before .before .before .args .profile)) _ (q .ensures .puts) (r .0 .space) (q .kept .0))
 
 join-same-length : (t : ℕ) → join-lts.Need-same-length (join-uses t) (join-at t) join.Post
 join-same-length t c = search needs
 
 join-returns : (t : ℕ) → join-lts.Need-returns (join-uses t) (join-at t) join.Post
 join-returns t c =
-    conj-rows _ _ _ _ _ _ _ (c .before .before .before .before .before .before .before .before .before .before .match .keys1) (room-conj _ _ _ _ _ _ (c .before .before .before .before .before .before .before .before .before .before .before .before .before .pre .1 .7) (c .before .before .before .before .before .before .before .before .before .before .match .keys1) .space) (c .before .before .before .before .before .before .before .before .both .ensures) (c .before .before .put-and .ensures)
+    conj-rows _ _ _ _ _ _ _ _ (c .before .before .before .before .before .before .before .before .before .before .match .keys1) (room-conj _ _ _ _ _ _ _ (c .before .before .before .before .before .before .before .before .before .before .before .before .before .pre .1 .7) (c .before .before .before .before .before .before .before .before .before .before .match .keys1) .space) (c .before .before .before .before .before .before .before .before .both .ensures) (c .before .before .put-and .ensures)
 
 join-same-length-2 : (t : ℕ) → join-lts.Need-same-length-2 (join-uses t) (join-at t) join.Post
 join-same-length-2 t c = search needs
 
 join-returns-2 : (t : ℕ) → join-lts.Need-returns-2 (join-uses t) (join-at t) join.Post
 join-returns-2 t c =
-    disj-rows _ _ _ _ _ _ _ (c .before .before .before .before .before .before .before .before .before .before .match .keys2) (room-disj _ _ _ _ _ _ (c .before .before .before .before .before .before .before .before .before .before .before .before .before .pre .1 .7) (c .before .before .before .before .before .before .before .before .before .before .match .keys2) .space) (c .before .before .before .before .before .before .before .before .both2 .ensures) (c .before .before .put-or .ensures)
+    disj-rows _ _ _ _ _ _ _ _ (c .before .before .before .before .before .before .before .before .before .before .match .keys2) (room-disj _ _ _ _ _ _ _ (c .before .before .before .before .before .before .before .before .before .before .before .before .before .pre .1 .7) (c .before .before .before .before .before .before .before .before .before .before .match .keys2) .space) (c .before .before .before .before .before .before .before .before .both2 .ensures) (c .before .before .put-or .ensures)
 
 join-same-length-3 : (t : ℕ) → join-lts.Need-same-length-3 (join-uses t) (join-at t) join.Post
 join-same-length-3 t c = search needs
 
 join-returns-3 : (t : ℕ) → join-lts.Need-returns-3 (join-uses t) (join-at t) join.Post
 join-returns-3 t c =
-    but-rows _ _ _ _ _ _ _ (c .before .before .before .before .before .before .before .before .match .keys3) (room-but _ _ _ _ _ _ (c .before .before .before .before .before .before .before .before .before .before .before .pre .1 .7) (c .before .before .before .before .before .before .before .before .match .keys3) .space) (c .before .before .before .before .before .before .both3 .ensures) (c .before .before .put-but .ensures)
+    but-rows _ _ _ _ _ _ _ _ (c .before .before .before .before .before .before .before .before .match .keys3) (room-but _ _ _ _ _ _ _ (c .before .before .before .before .before .before .before .before .before .before .before .pre .1 .7) (c .before .before .before .before .before .before .before .before .match .keys3) .space) (c .before .before .before .before .before .before .both3 .ensures) (c .before .before .put-but .ensures)
 
 join-same-length-4 : (t : ℕ) → join-lts.Need-same-length-4 (join-uses t) (join-at t) join.Post
 join-same-length-4 t c = search needs
 
 join-returns-4 : (t : ℕ) → join-lts.Need-returns-4 (join-uses t) (join-at t) join.Post
 join-returns-4 t c =
-    neg-rows _ _ _ _ _ _ (c .before .before .before .before .before .before .before .before .before .match .keys4) (room-neg _ _ _ _ _ _ (c .before .before .before .before .before .before .before .before .before .before .before .before .pre .1 .7) (c .before .before .before .before .before .before .before .before .before .match .keys4) .1) (c .before .before .before .before .before .before .before .node .ensures) (c .before .before .put-not .ensures)
+    neg-rows _ _ _ _ _ _ _ (c .before .before .before .before .before .before .before .before .before .match .keys4) (room-neg _ _ _ _ _ _ _ (c .before .before .before .before .before .before .before .before .before .before .before .before .pre .1 .7) (c .before .before .before .before .before .before .before .before .before .match .keys4) .1) (c .before .before .before .before .before .before .before .node .ensures) (c .before .before .put-not .ensures)
 
 join-same-length-5 : (t : ℕ) → join-lts.Need-same-length-5 (join-uses t) (join-at t) join.Post
 join-same-length-5 t c = search needs
 
 join-returns-5 : (t : ℕ) → join-lts.Need-returns-5 (join-uses t) (join-at t) join.Post
 join-returns-5 t c =
-    sep-encoded _ _ _ _ _ _ _ (c .before .before .before .before .before .before .before .before .match .keys5) (room-sep _ _ _ _ _ _ (c .before .before .before .before .before .before .before .before .before .before .before .pre .1 .7) (c .before .before .before .before .before .before .before .before .match .keys5) .0 .space) (c .before .before .before .before .before .before .both4 .ensures) (c .before .before .put-sep .ensures)
+    sep-encoded _ _ _ _ _ _ _ _ (c .before .before .before .before .before .before .before .before .match .keys5) (room-sep _ _ _ _ _ _ _ (c .before .before .before .before .before .before .before .before .before .before .before .pre .1 .7) (c .before .before .before .before .before .before .before .before .match .keys5) .0 .space) (c .before .before .before .before .before .before .both4 .ensures) (c .before .before .put-sep .ensures)
 
 join-same-length-6 : (t : ℕ) → join-lts.Need-same-length-6 (join-uses t) (join-at t) join.Post
 join-same-length-6 t c = search needs
 
 join-returns-6 : (t : ℕ) → join-lts.Need-returns-6 (join-uses t) (join-at t) join.Post
 join-returns-6 t c =
-    sept-encoded _ _ _ _ _ _ _ (omega arith) (room-sept _ _ _ _ _ _ (c .before .before .before .before .before .before .before .before .before .before .before .pre .1 .7) (omega arith) .0 .space) (c .before .before .before .before .before .before .both5 .ensures) (c .before .before .put-sept .ensures)
+    sept-encoded _ _ _ _ _ _ _ _ (omega arith) (room-sept _ _ _ _ _ _ _ (c .before .before .before .before .before .before .before .before .before .before .before .pre .1 .7) (omega arith) .0 .space) (c .before .before .before .before .before .before .both5 .ensures) (c .before .before .put-sept .ensures)
 
 node-mul-op : (t : ℕ) → node-lts.Need-mul-op (node-uses t) (node-at t) node.Post
 node-mul-op t c = search needs
@@ -248,7 +249,7 @@ node-put-atom-requires : (t : ℕ) → node-lts.Need-put-atom-requires (node-use
 node-put-atom-requires t c κs =
     let z = c .before .before .before .before .before .before .before .before .before .before .pre .1 in
     let a = c .before .before .before .before .before .before .before .before .before .before .args in
-    (omega arith, omega arith, z .1, room-atom (z .2 .0) (a .f .now) (z .2 .1) (a .k) _ _ (a .n) (z .0) (c .before .short .ensures) (c .short2 .ensures) _ _ (omega arith) (z .3))
+    (omega arith, omega arith, z .1, room-atom (a .profile) (z .2 .0) (a .f .now) (z .2 .1) (a .k) _ _ (a .n) (z .0) (c .before .short .ensures) (c .short2 .ensures) _ _ (omega arith) (z .3))
 
 node-wide-requires : (t : ℕ) → node-lts.Need-wide-requires (node-uses t) (node-at t) node.Post
 node-wide-requires t c κs = search needs
@@ -265,7 +266,7 @@ node-join-requires t c κs =
     let ey = c .wide2 .ensures .0 in
     let h = lower (z .2 .0) (a .f .now) (z .2 .1) (a .k) _ _ (z .0) ex ey l in (
       omega (arith, c .before .before .before .before .before .before .before .before .before .before .before .pre .0),
-      (z .0, h .0, h .1, l, omega arith, z .1, z .2, room-join (z .2 .0) (a .f .now) (z .2 .1) (a .k) _ _ (a .n) (z .0) ex ey _ _ l (z .3)),
+      (z .0, h .0, h .1, l, omega arith, z .1, z .2, room-join (a .profile) (z .2 .0) (a .f .now) (z .2 .1) (a .k) _ _ (a .n) (z .0) ex ey _ _ l (z .3)),
     )
 
 node-same-length : (t : ℕ) → node-lts.Need-same-length (node-uses t) (node-at t) node.Post
@@ -275,7 +276,7 @@ node-returns : (t : ℕ) → node-lts.Need-returns (node-uses t) (node-at t) nod
 node-returns t c =
     let z = c .before .before .before .before .before .before .before .before .before .before .before .before .before .pre .1 in
     let a = c .before .before .before .before .before .before .before .before .before .before .before .before .before .args in
-    atom-encoded (z .2 .0) (a .f .now) (z .2 .1) (a .k) _ _ (a .n) (z .0) (c .before .before .before .before .short .ensures) (c .before .before .before .short2 .ensures) _ _ _ _ _ _ (omega arith) (c .before .before .put-atom .ensures)
+    atom-encoded (a .profile) (z .2 .0) (a .f .now) (z .2 .1) (a .k) _ _ (a .n) (z .0) (c .before .before .before .before .short .ensures) (c .before .before .before .short2 .ensures) _ _ _ _ _ _ (omega arith) (c .before .before .put-atom .ensures)
 
 node-same-length-2 : (t : ℕ) → node-lts.Need-same-length-2 (node-uses t) (node-at t) node.Post
 node-same-length-2 t c = search needs
@@ -284,7 +285,7 @@ node-returns-2 : (t : ℕ) → node-lts.Need-returns-2 (node-uses t) (node-at t)
 node-returns-2 t c =
     let z = c .before .before .before .before .before .before .before .before .before .before .before .before .before .before .pre .1 in
     let a = c .before .before .before .before .before .before .before .before .before .before .before .before .before .before .args in
-    join-encoded (z .2 .0) (a .f .now) (z .2 .1) (a .k) _ _ (a .n) (z .0) (c .before .before .before .before .wide .ensures .0) (c .before .before .before .wide2 .ensures .0) _ _ _ _ _ _ (omega arith) (c .before .before .join .ensures)
+    join-encoded (a .profile) (z .2 .0) (a .f .now) (z .2 .1) (a .k) _ _ (a .n) (z .0) (c .before .before .before .before .wide .ensures .0) (c .before .before .before .wide2 .ensures .0) _ _ _ _ _ _ (omega arith) (c .before .before .join .ensures)
 
 node-returns-3 : (t : ℕ) → node-lts.Need-returns-3 (node-uses t) (node-at t) node.Post
 node-returns-3 t c =
@@ -326,7 +327,7 @@ pub +both+join+node-spec : {M : Type 1} → statement M
     (join-both-requires-4 t)
     (join-put-sep-requires t)
     (join-add-both-3 t)
-    (join-add-t50 t)
+    (join-add-t51 t)
     (join-add-both-4 t)
     (join-both-requires-5 t)
     (join-put-sept-requires t)

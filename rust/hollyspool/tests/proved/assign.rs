@@ -3,9 +3,9 @@
 use cases::line::{about, Call, Outcome};
 use cases::made::{book, small, tree};
 use cases::random::Random;
-use second::assign::assign;
+use second::assign::assign_in;
 
-use crate::compare::{proved, MOST};
+use crate::compare::{proved, MOST, PROFILES};
 
 /// Few negations, so that most books have an encoding.
 const OPERATORS: [u8; 16] = [1, 2, 3, 3, 4, 4, 5, 5, 6, 6, 7, 8, 9, 9, 10, 10];
@@ -13,7 +13,8 @@ const OPERATORS: [u8; 16] = [1, 2, 3, 3, 4, 4, 5, 5, 6, 6, 7, 8, 9, 9, 10, 10];
 #[test]
 fn assign_lines() {
     for case in about(Call::Assign) {
-        let answer = proved(hollyspool::assign(&case.book, &case.arg));
+        let (profile, _) = PROFILES[usize::from(case.ordinary)];
+        let answer = proved(hollyspool::assign_in(profile, &case.book, &case.arg));
         let outcome = Outcome::of(answer.number, answer.place, answer.tried, Vec::new());
         assert_eq!(outcome, case.outcome, "{}", case.source);
     }
@@ -56,12 +57,14 @@ fn random_assignments() {
 }
 
 fn same_assignment(book: &[u8], assignment: &[u8]) {
-    let answer = proved(hollyspool::assign(book, assignment));
-    assert_eq!(
-        answer,
-        assign(book, assignment),
-        "{assignment:?} for {book:?}"
-    );
+    for (profile, second) in PROFILES {
+        let answer = proved(hollyspool::assign_in(profile, book, assignment));
+        assert_eq!(
+            answer,
+            assign_in(second, book, assignment),
+            "{assignment:?} for {book:?} in {profile:?}"
+        );
+    }
 }
 
 /// The length of the book's assignments.

@@ -3,6 +3,7 @@
 use std::collections::BTreeSet;
 
 use cases::made::{book, small};
+use hollyspool::Profile;
 
 #[test]
 fn satisfying_assignments_have_the_models_that_fit() {
@@ -10,19 +11,26 @@ fn satisfying_assignments_have_the_models_that_fit() {
         for nodes in small(v) {
             let bounds = [v, n, n];
             let book = book(bounds, &nodes);
-            if hollyspool::encode(&book, &mut [0; 1024]).number == 0 {
-                assert_eq!(
-                    satisfied(bounds, &nodes, &book),
-                    fitting(bounds, &book),
-                    "{book:?}"
-                );
+            for profile in Profile::ALL {
+                if hollyspool::encode_in(profile, &book, &mut [0; 1024]).number == 0 {
+                    assert_eq!(
+                        satisfied(profile, bounds, &nodes, &book),
+                        fitting(profile, bounds, &book),
+                        "{book:?} in {profile:?}"
+                    );
+                }
             }
         }
     }
 }
 
 /// The models of the satisfying assignments: the stack, and array 0 on set 0.
-fn satisfied([v, n, _]: [u8; 3], nodes: &[[u8; 3]], book: &[u8]) -> BTreeSet<Vec<u8>> {
+fn satisfied(
+    profile: Profile,
+    [v, n, _]: [u8; 3],
+    nodes: &[[u8; 3]],
+    book: &[u8],
+) -> BTreeSet<Vec<u8>> {
     let with = |least| nodes.iter().filter(|node| node[0] >= least).count();
     let [v, n] = [v, n].map(usize::from);
     let [arrays, sets] = [1 + with(10), 1 + 2 * with(9)];
@@ -30,7 +38,7 @@ fn satisfied([v, n, _]: [u8; 3], nodes: &[[u8; 3]], book: &[u8]) -> BTreeSet<Vec
     most.resize(most.len() + sets, (1 << n) - 1);
     let mut models = BTreeSet::new();
     for_each(&most, |assignment| {
-        if hollyspool::assign(book, assignment).number == 0 {
+        if hollyspool::assign_in(profile, book, assignment).number == 0 {
             let set = assignment[v + n * arrays];
             let cell = |location: usize| match set >> location & 1 {
                 0 => 255,
@@ -48,7 +56,7 @@ fn satisfied([v, n, _]: [u8; 3], nodes: &[[u8; 3]], book: &[u8]) -> BTreeSet<Vec
     models
 }
 
-fn fitting([v, n, _]: [u8; 3], book: &[u8]) -> BTreeSet<Vec<u8>> {
+fn fitting(profile: Profile, [v, n, _]: [u8; 3], book: &[u8]) -> BTreeSet<Vec<u8>> {
     let [v, n] = [v, n].map(usize::from);
     let mut most = vec![n as u8; v];
     most.resize(v + n, n as u8 + 1);
@@ -58,7 +66,7 @@ fn fitting([v, n, _]: [u8; 3], book: &[u8]) -> BTreeSet<Vec<u8>> {
         for cell in &mut model[v..] {
             *cell = cell.wrapping_sub(1);
         }
-        if hollyspool::judge(book, &model).number == 0 {
+        if hollyspool::judge_in(profile, book, &model).number == 0 {
             models.insert(model);
         }
     });

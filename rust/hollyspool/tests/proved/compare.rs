@@ -1,6 +1,14 @@
 //! A proved call beside the second bench's.
 
+use hollyspool::Profile;
 use second::answer::Answer;
+use second::profile::Profile as Second;
+
+/// Each profile, as both benches have it.
+pub const PROFILES: [(Profile, Second); 2] = [
+    (Profile::Strong, Second::Strong),
+    (Profile::Ordinary, Second::Ordinary),
+];
 
 /// The largest value of each bound.
 pub const MOST: u8 = second::book::MOST as u8;

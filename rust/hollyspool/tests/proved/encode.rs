@@ -4,9 +4,9 @@ use cases::line::{about, Call, Outcome};
 use cases::made::{book, small, tree};
 use cases::random::Random;
 use hollyspool::MOST_ENCODED;
-use second::encode::encode;
+use second::encode::encode_in;
 
-use crate::compare::{proved, MOST};
+use crate::compare::{proved, MOST, PROFILES};
 
 /// Few negations, so that most books have an encoding.
 const OPERATORS: [u8; 16] = [1, 2, 3, 3, 4, 4, 5, 5, 6, 6, 7, 8, 9, 9, 10, 10];
@@ -15,7 +15,8 @@ const OPERATORS: [u8; 16] = [1, 2, 3, 3, 4, 4, 5, 5, 6, 6, 7, 8, 9, 9, 10, 10];
 fn encode_lines() {
     for case in about(Call::Encode) {
         let mut out = case.buffer();
-        let answer = proved(hollyspool::encode(&case.book, &mut out));
+        let (profile, _) = PROFILES[usize::from(case.ordinary)];
+        let answer = proved(hollyspool::encode_in(profile, &case.book, &mut out));
         let outcome = Outcome::of(answer.number, answer.place, answer.tried, out);
         assert_eq!(outcome, case.outcome, "{}", case.source);
     }
@@ -37,26 +38,34 @@ fn random_books() {
         let bounds = [(); 3].map(|()| random.up_to(MOST));
         let nodes = tree(&mut random, bounds[0], 1 + round % 64, &OPERATORS);
         let book = book(bounds, &nodes);
-        let length = same_encoding(&book, MOST_ENCODED + 1);
-        for room in [
-            length.saturating_sub(1),
-            length,
-            length + 1,
-            random.below(MOST_ENCODED),
-        ] {
-            same_encoding(&book, room);
+        for length in same_encoding(&book, MOST_ENCODED + 1) {
+            for room in [
+                length.saturating_sub(1),
+                length,
+                length + 1,
+                random.below(MOST_ENCODED),
+            ] {
+                same_encoding(&book, room);
+            }
         }
     }
 }
 
-/// Compares two encodings and every byte of their outputs. Gives the length that was written.
-fn same_encoding(book: &[u8], room: usize) -> usize {
-    let (mut out, mut expected) = (vec![0xA5; room], vec![0xA5; room]);
-    let answer = proved(hollyspool::encode(book, &mut out));
-    let second = encode(book, &mut expected);
-    assert_eq!((answer, &out), (second, &expected), "{room} for {book:?}");
-    match second.number {
-        0 => 14 + usize::from(u16::from_le_bytes([out[9], out[10]])),
-        _ => 0,
-    }
+/// Compares two encodings in each profile, and every byte of their outputs. Gives the lengths that were
+/// written.
+fn same_encoding(book: &[u8], room: usize) -> [usize; 2] {
+    PROFILES.map(|(profile, second)| {
+        let (mut out, mut expected) = (vec![0xA5; room], vec![0xA5; room]);
+        let answer = proved(hollyspool::encode_in(profile, book, &mut out));
+        let second = encode_in(second, book, &mut expected);
+        assert_eq!(
+            (answer, &out),
+            (second, &expected),
+            "{room} for {book:?} in {profile:?}"
+        );
+        match second.number {
+            0 => 14 + usize::from(u16::from_le_bytes([out[9], out[10]])),
+            _ => 0,
+        }
+    })
 }

@@ -5,10 +5,10 @@ use cases::made::{book, small, tame, tree};
 use cases::random::Random;
 use second::book::Bounds;
 use second::candidate::count;
-use second::judge::judge;
+use second::judge::judge_in;
 use second::model::{Model, UNALLOCATED};
 
-use crate::compare::{proved, MOST};
+use crate::compare::{proved, MOST, PROFILES};
 
 /// Negations and septractions tell strong disjointness from plain, and so they come often.
 const OPERATORS: [u8; 16] = [1, 1, 2, 3, 3, 4, 5, 6, 7, 8, 8, 8, 9, 9, 10, 10];
@@ -16,7 +16,8 @@ const OPERATORS: [u8; 16] = [1, 1, 2, 3, 3, 4, 5, 6, 7, 8, 8, 8, 9, 9, 10, 10];
 #[test]
 fn judge_lines() {
     for case in about(Call::Judge) {
-        let answer = proved(hollyspool::judge(&case.book, &case.arg));
+        let (profile, _) = PROFILES[usize::from(case.ordinary)];
+        let answer = proved(hollyspool::judge_in(profile, &case.book, &case.arg));
         let outcome = Outcome::of(answer.number, answer.place, answer.tried, Vec::new());
         assert_eq!(outcome, case.outcome, "{}", case.source);
     }
@@ -89,8 +90,11 @@ fn refused_models() {
 }
 
 fn same_judging(book: &[u8], model: &[u8]) {
-    let answer = proved(hollyspool::judge(book, model));
-    assert_eq!(answer, judge(book, model), "{model:?} for {book:?}");
+    for (profile, second) in PROFILES {
+        let answer = proved(hollyspool::judge_in(profile, book, model));
+        let expected = judge_in(second, book, model);
+        assert_eq!(answer, expected, "{model:?} for {book:?} in {profile:?}");
+    }
 }
 
 /// All v, n, p up to 2.

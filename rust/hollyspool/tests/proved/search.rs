@@ -5,9 +5,9 @@ use cases::made::{book, name_all, small, tame, tree};
 use cases::random::Random;
 use second::book::Bounds;
 use second::candidate::count;
-use second::search::search;
+use second::search::{search, search_in};
 
-use crate::compare::{proved, MOST};
+use crate::compare::{proved, MOST, PROFILES};
 
 const OPERATORS: [u8; 16] = [1, 2, 2, 3, 3, 3, 4, 5, 5, 6, 7, 8, 9, 9, 9, 10];
 
@@ -18,7 +18,9 @@ const VISITS: u64 = 2_000_000;
 fn search_lines() {
     for case in about(Call::Search) {
         let mut out = case.buffer();
-        let answer = proved(hollyspool::search(&case.book, case.number, &mut out));
+        let (profile, _) = PROFILES[usize::from(case.ordinary)];
+        let answer = hollyspool::search_in(profile, &case.book, case.number, &mut out);
+        let answer = proved(answer);
         let outcome = Outcome::of(answer.number, answer.place, answer.tried, out);
         assert_eq!(outcome, case.outcome, "{}", case.source);
     }
@@ -81,10 +83,16 @@ fn made(random: &mut Random, count: usize, operators: &[u8]) -> ([u8; 3], Vec<[u
 
 /// Compares two searches and every byte of their outputs.
 fn same_search(book: &[u8], budget: u64, room: usize) {
-    let (mut out, mut expected) = (vec![0xA5; room], vec![0xA5; room]);
-    let answer = proved(hollyspool::search(book, budget, &mut out));
-    let second = search(book, budget, &mut expected);
-    assert_eq!((answer, out), (second, expected), "{budget} for {book:?}");
+    for (profile, second) in PROFILES {
+        let (mut out, mut expected) = (vec![0xA5; room], vec![0xA5; room]);
+        let answer = proved(hollyspool::search_in(profile, book, budget, &mut out));
+        let second = search_in(second, book, budget, &mut expected);
+        assert_eq!(
+            (answer, out),
+            (second, expected),
+            "{budget} for {book:?} in {profile:?}"
+        );
+    }
 }
 
 /// Budgets around the first fit (0 where the book is refused) and around T, each once.

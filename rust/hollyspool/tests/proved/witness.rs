@@ -2,10 +2,10 @@
 
 use cases::made::{book, tree};
 use cases::random::Random;
-use hollyspool::MOST_ENCODED;
-use second::assign::assign;
+use hollyspool::{Profile, MOST_ENCODED};
+use second::assign::assign_in;
 
-use crate::compare::{proved, MOST};
+use crate::compare::{proved, MOST, PROFILES};
 
 /// Few negations, so that most books have an encoding.
 const OPERATORS: [u8; 14] = [1, 2, 3, 3, 4, 4, 5, 6, 7, 8, 9, 9, 10, 10];
@@ -13,64 +13,72 @@ const OPERATORS: [u8; 14] = [1, 2, 3, 3, 4, 4, 5, 6, 7, 8, 9, 9, 10, 10];
 #[test]
 fn models_give_assignments() {
     let mut random = Random::new(0x817);
-    let mut satisfied = 0;
+    let [mut satisfied, mut differ] = [0; 2];
     for round in 0..4_000 {
         let [v, n, p] = [random.up_to(MOST), random.up_to(2), random.up_to(2)];
         let nodes = tree(&mut random, v, 1 + round % 9, &OPERATORS);
         let book = book([v, n, p], &nodes);
         if hollyspool::encode(&book, &mut [0; MOST_ENCODED]).number == 0 {
             for _ in 0..20 {
-                satisfied += usize::from(one_model(&mut random, [v, n, p], &nodes, &book));
+                let [strong, ordinary] = one_model(&mut random, [v, n, p], &nodes, &book);
+                satisfied += usize::from(strong);
+                differ += usize::from(strong != ordinary);
             }
         }
     }
     assert!(satisfied > 1_000, "only {satisfied} models fitted");
+    assert!(differ > 0, "the profiles are never told apart");
 }
 
-/// Makes the assignment of a random model and compares; then the same with one byte changed. Says whether the model fits.
-fn one_model(random: &mut Random, [v, n, p]: [u8; 3], nodes: &[[u8; 3]], book: &[u8]) -> bool {
+/// Makes the assignments of a random model, one in each profile, and compares; then the same with one byte changed. Says
+/// whether the model fits.
+fn one_model(random: &mut Random, [v, n, p]: [u8; 3], nodes: &[[u8; 3]], book: &[u8]) -> [bool; 2] {
     let stack: Vec<u8> = (0..v).map(|_| random.up_to(n)).collect();
     let value: Vec<u8> = (0..n).map(|_| random.up_to(n)).collect();
     let set = random.up_to(((1_u16 << n) - 1) as u8);
-    let mut witness = Witness {
-        nodes,
-        stack: &stack,
-        arrays: vec![value.clone()],
-        sets: vec![set],
-    };
-    let fits = witness.holds(nodes.len() - 1, &value, set) && !goes_on(&value, set, p);
     let cell = |at: usize| if set >> at & 1 == 0 { 255 } else { value[at] };
     let model: Vec<u8> = stack
         .iter()
         .copied()
         .chain((0..value.len()).map(cell))
         .collect();
-    assert_eq!(
-        hollyspool::judge(book, &model).number,
-        u64::from(!fits),
-        "{model:?} {book:?}"
-    );
-    let mut assignment = stack.clone();
-    assignment.extend(witness.arrays.concat());
-    assignment.extend(&witness.sets);
-    if fits {
+    PROFILES.map(|(profile, second)| {
+        let mut witness = Witness {
+            profile,
+            nodes,
+            stack: &stack,
+            arrays: vec![value.clone()],
+            sets: vec![set],
+        };
+        let fits = witness.holds(nodes.len() - 1, &value, set) && !goes_on(&value, set, p);
         assert_eq!(
-            hollyspool::assign(book, &assignment).number,
-            0,
-            "{assignment:?} {book:?}"
+            hollyspool::judge_in(profile, book, &model).number,
+            u64::from(!fits),
+            "{model:?} {book:?} in {profile:?}"
         );
-    }
-    let at = random.below(assignment.len());
-    assignment[at] = random.up_to(n);
-    assert_eq!(
-        proved(hollyspool::assign(book, &assignment)),
-        assign(book, &assignment)
-    );
-    fits
+        let mut assignment = stack.clone();
+        assignment.extend(witness.arrays.concat());
+        assignment.extend(&witness.sets);
+        if fits {
+            assert_eq!(
+                hollyspool::assign_in(profile, book, &assignment).number,
+                0,
+                "{assignment:?} {book:?} in {profile:?}"
+            );
+        }
+        let at = random.below(assignment.len());
+        assignment[at] = random.up_to(n);
+        assert_eq!(
+            proved(hollyspool::assign_in(profile, book, &assignment)),
+            assign_in(second, book, &assignment)
+        );
+        fits
+    })
 }
 
 /// The arrays and sets so far, in the order of the walk from the root.
 struct Witness<'a> {
+    profile: Profile,
     nodes: &'a [[u8; 3]],
     stack: &'a [u8],
     arrays: Vec<Vec<u8>>,
@@ -150,7 +158,7 @@ impl Witness<'_> {
         })
     }
 
-    /// Whether two sets of cells meet at named locations only.
+    /// Whether two sets of cells meet at named locations only; in the ordinary profile they meet anywhere.
     fn apart(&self, value: &[u8], one: u8, other: u8) -> bool {
         let locs = |set: u8| {
             (0..value.len())
@@ -161,7 +169,7 @@ impl Witness<'_> {
             .stack
             .iter()
             .fold(1, |named, location| named | 1 << location);
-        locs(one) & locs(other) & !named == 0
+        self.profile == Profile::Ordinary || locs(one) & locs(other) & !named == 0
     }
 }
 

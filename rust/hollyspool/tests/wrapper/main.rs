@@ -4,5 +4,6 @@ mod books;
 mod candidates;
 mod models;
 mod numbers;
+mod profiles;
 mod samples;
 mod written;

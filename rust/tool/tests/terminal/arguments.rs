@@ -42,6 +42,22 @@ fn bad_arguments() {
         ),
         (&["translate"], "translate needs a FILE"),
         (&["search", book, "--raw"], "search has no option --raw"),
+        (
+            &["search", book, "--profile"],
+            "--profile needs strong or ordinary",
+        ),
+        (
+            &["judge", book, "00", "--profile", "weak"],
+            "--profile needs strong or ordinary, not weak",
+        ),
+        (
+            &["text", book, "--profile", "strong"],
+            "text has no option --profile",
+        ),
+        (
+            &["translate", book, "--profile", "strong"],
+            "translate has no option --profile",
+        ),
         (&["judge", book], "judge needs a FILE and a MODEL"),
         (&["judge", book, "0"], "0 is not two hex digits a byte"),
         (&["judge", book, "+1"], "+1 has other than hex digits"),

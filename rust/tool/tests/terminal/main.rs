@@ -8,6 +8,7 @@ mod explain;
 mod json;
 mod machines;
 mod page;
+mod profiles;
 mod progress;
 mod run;
 mod statuses;

@@ -38,7 +38,7 @@ fn commands_of_the_first_page() {
             commands += 1;
         }
     }
-    assert_eq!(commands, 13);
+    assert_eq!(commands, 15);
 }
 
 /// The first command of README.md searches a text, which stands there, and then what it prints.

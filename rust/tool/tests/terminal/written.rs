@@ -55,7 +55,7 @@ fn whole_files() {
     let file = run(&["text", &sample("booking_cut_off"), "--file"]);
     assert_eq!(
         file.out,
-        "; from a book with n = 4, p = 4; its sep and wand are those of strong separation\n\
+        "; from a book with n = 4, p = 4; its sep and wand are strong, unless asked otherwise\n\
          (set-logic QF_ALL)\n(declare-sort Loc 0)\n(declare-heap (Loc Loc))\n\
          (declare-const v1 Loc)\n(declare-const v2 Loc)\n\
          (assert (sep (and (distinct v1 (as sep.nil Loc)) sep.emp) \
