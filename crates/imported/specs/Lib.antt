@@ -3,3 +3,4 @@ pub mod NamedLaws
 pub mod Imported
 pub mod ImportedLaws
 pub mod Demands
+pub mod TextProfiles

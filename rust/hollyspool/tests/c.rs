@@ -28,6 +28,14 @@ encoding: 02 01 0b 00 03 00 03 0e 00 32 00 01 01 01 04 00 00 00 01 00 00 00 00 0
 05 00 00 00 01 00 01 00 00 00 07 00 00 00 01 00 00 00 00 00 0d 01 00 00 00 00 00 00 00 00 \
 07 00 02 00 03 00 00 00 00 00
 assign: number 0 place 0 tried 0
+judge: number 1 place 0 tried 0
+judge_ordinary: number 0 place 0 tried 0
+search_ordinary: number 0 place 0 tried 6
+model: 00 00
+encode_ordinary: number 0 place 0 tried 0
+rows: 13
+assign: number 1 place 0 tried 0
+assign_ordinary: number 0 place 0 tried 0
 ";
 
 #[test]
