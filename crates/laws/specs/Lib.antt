@@ -10,3 +10,9 @@ pub mod FoundFits
 pub mod SameAnswers
 pub mod Profiles
 pub mod ProfileAnswers
+pub mod Renumbering
+pub mod RenumberingLaws
+pub mod RenumberedAnswers
+pub mod Exchange
+pub mod ExchangeLaws
+pub mod RenumberingExamples

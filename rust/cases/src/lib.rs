@@ -3,4 +3,5 @@
 pub mod line;
 pub mod made;
 pub mod random;
+pub mod renumber;
 pub mod texts;

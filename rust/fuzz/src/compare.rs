@@ -1,5 +1,6 @@
 //! Every call on one input, both benches, in both profiles.
 
+use cases::renumber;
 use hollyspool::{Answer, Profile};
 use second::book::Book;
 use second::model::Model;
@@ -37,7 +38,11 @@ pub fn all(input: &Input, tally: &mut Tally) -> Result<(), String> {
     let ordinary = in_profile(input, ordinary, tally)?;
     alike(book, &strong, &ordinary, tally)?;
     export(input, tally)?;
-    read_back(input, [strong.found, ordinary.found], tally)?;
+    if let Ok(accepted) = Book::accept(book) {
+        let models = models(input, &accepted, [strong.found, ordinary.found]);
+        renumbered(input, &accepted, &models, tally)?;
+        read_back(input, &accepted, &models, tally)?;
+    }
     import(&input.text, tally)
 }
 
@@ -149,13 +154,47 @@ fn export(input: &Input, tally: &mut Tally) -> Result<(), String> {
     outputs(Call::Export, exported, length, &mut proved, &mut second)
 }
 
-/// The book of an accepted book's text holds on the same models, in each profile: on the input's, if it
-/// is in range, and on the one that a search found there.
-fn read_back(input: &Input, found: [Option<Vec<u8>>; 2], tally: &mut Tally) -> Result<(), String> {
-    let Ok(book) = Book::accept(&input.book) else {
-        return Ok(());
-    };
-    let back = match round_trip(&book, &input.book)? {
+/// The models in range of an accepted book, each with a profile: the input's own in both, and the one
+/// that a search found there.
+fn models(input: &Input, book: &Book, found: [Option<Vec<u8>>; 2]) -> Vec<(Profile, Vec<u8>)> {
+    let given = Model::accept(book.bounds, &input.model).map(|_| input.model.clone());
+    let mut models = Vec::new();
+    for (profile, found) in Profile::ALL.into_iter().zip(found) {
+        let here = given.iter().cloned().chain(found);
+        models.extend(here.map(|model| (profile, model)));
+    }
+    models
+}
+
+/// A model and the same model renumbered are judged alike.
+fn renumbered(
+    input: &Input,
+    book: &Book,
+    models: &[(Profile, Vec<u8>)],
+    tally: &mut Tally,
+) -> Result<(), String> {
+    for (profile, model) in models {
+        let other = renumber::renumbered(book.bounds.v, model, &input.renumbering);
+        let [one, another] =
+            [model, &other].map(|model| hollyspool::judge_in(*profile, &input.book, model));
+        if one != another {
+            return Err(format!(
+                "on {model:?} it gives {one:?}, and on {other:?} {another:?}, in {profile:?}"
+            ));
+        }
+        tally.renumbered[usize::from(one.number == 0)] += u64::from(*model != other);
+    }
+    Ok(())
+}
+
+/// The book of an accepted book's text holds on the same models.
+fn read_back(
+    input: &Input,
+    book: &Book,
+    models: &[(Profile, Vec<u8>)],
+    tally: &mut Tally,
+) -> Result<(), String> {
+    let back = match round_trip(book, &input.book)? {
         Reading::Whole(back) => back,
         Reading::NotCompared => {
             tally.read_back += 1;
@@ -167,12 +206,9 @@ fn read_back(input: &Input, found: [Option<Vec<u8>>; 2], tally: &mut Tally) -> R
         }
     };
     tally.read_back += 1;
-    let given = Model::accept(book.bounds, &input.model).map(|_| input.model.clone());
-    for (profile, found) in Profile::ALL.into_iter().zip(found) {
-        for model in given.iter().chain(&found) {
-            let fits = back.fits(profile, &input.book, model)?;
-            tally.matched[usize::from(fits)] += 1;
-        }
+    for (profile, model) in models {
+        let fits = back.fits(*profile, &input.book, model)?;
+        tally.matched[usize::from(fits)] += 1;
     }
     Ok(())
 }

@@ -3,6 +3,7 @@
 use std::fmt;
 
 use cases::random::Random;
+use cases::renumber::renumbering;
 use hollyspool::MOST_TEXT;
 use second::book::{Book, Bounds, BOUNDS, CONTENTS, LONGEST, MOST};
 use second::candidate::count;
@@ -22,6 +23,8 @@ const VISITS: u64 = 60_000;
 pub struct Input {
     pub book: Vec<u8>,
     pub model: Vec<u8>,
+    /// The new number of each location from 0 to n.
+    pub renumbering: Vec<u8>,
     pub assignment: Vec<u8>,
     pub entry: u64,
     pub budget: u64,
@@ -105,6 +108,7 @@ impl Input {
         });
         Input {
             model: model(random, bounds),
+            renumbering: renumbering(random, bounds.n as u8),
             assignment: assignment(random, bounds, arrays, sets),
             entry: random.one_of(&[0, 1, 2, 255, 256, u64::MAX]),
             budget: budget(random, count(bounds), visits),

@@ -39,13 +39,15 @@ impl Call {
 /// One more than the highest number.
 const NUMBERS: usize = 29;
 
-/// Counts by number and call, and of books that were written and read back.
+/// Counts by number and call, of models renumbered, and of books that were written and read back.
 #[derive(Default)]
 pub struct Tally {
     numbers: [[u64; COLUMNS.len()]; NUMBERS],
     /// Inputs that both profiles answer alike, without operator 8 and with it, and those that they don't.
     pub alike: [u64; 2],
     pub apart: u64,
+    /// Models that became others by renumbering, and don't fit, or do, before and after.
+    pub renumbered: [u64; 2],
     /// Texts that could be read back, and texts that were too deep or had too many nodes.
     pub read_back: u64,
     pub not_read_back: u64,
@@ -79,6 +81,8 @@ impl fmt::Display for Tally {
             f,
             "\nprofiles: alike on {without} inputs without operator 8 and on {with} with it, apart on {apart}"
         )?;
+        let [no, yes] = self.renumbered;
+        write!(f, "\nrenumbered models: {yes} fit, {no} do not")?;
         let ([no, yes], read, not) = (self.matched, self.read_back, self.not_read_back);
         write!(
             f,

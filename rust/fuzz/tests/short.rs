@@ -1,5 +1,5 @@
 //! A short run: no difference; every call gives every number that it can give, in each profile, and no
-//! other; few searches end at a stray variable; and the profiles are told apart.
+//! other; few searches end at a stray variable; the profiles are told apart; and models are renumbered.
 
 use std::process::Command;
 
@@ -35,9 +35,11 @@ fn no_difference() {
     let errors = String::from_utf8_lossy(&run.stderr);
     assert!(run.status.success(), "{errors}");
     let text = String::from_utf8_lossy(&run.stdout);
-    let (rest, texts) = text.trim_end().rsplit_once('\n').expect("lines");
-    let (table, profiles) = rest.rsplit_once('\n').expect("lines");
-    let rows = table.lines().skip(2).map(|line| {
+    let lines: Vec<&str> = text.lines().collect();
+    let [_, _, table @ .., profiles, renumbered, texts] = &lines[..] else {
+        panic!("few lines: {text}");
+    };
+    let rows = table.iter().map(|line| {
         let words = line.split_whitespace();
         words.map(|word| word.parse().expect("a count")).collect()
     });
@@ -56,6 +58,10 @@ fn no_difference() {
     };
     assert!(searches(&[0, 1, 2]) > 5 * searches(&[25]));
     told_apart(profiles);
+    let [fit, misfit] = counts(renumbered)[..] else {
+        panic!("not two counts: {renumbered}");
+    };
+    assert!(fit > 1_000 && misfit > 1_000, "{renumbered}");
     read_back(texts);
 }
 

@@ -29,10 +29,15 @@ pub fn run(problem: &Problem, request: &Request) -> Report {
     }
 }
 
+/// What stands under a picture.
+const ONLY_NAMES: &str =
+    "numbers are only names: with others, nil staying put, the model fits as well";
+
 /// A node for each location, nil's a box, those not allocated dashed; an edge for each cell.
 fn digraph(model: &Model, names: &[String]) -> String {
     let mut dot = "digraph model {\n  rankdir=LR;\n".to_owned();
     let mut line = |text: String| writeln!(dot, "  {text}").expect("a text takes all");
+    line(format!("label=\"{ONLY_NAMES}\";"));
     let here = |location| variables(model, names, location);
     line(format!("0 [shape=box, label=\"nil{}\"];", here(0)));
     for (location, cell) in (1..).zip(&model.heap) {

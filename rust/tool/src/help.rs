@@ -114,6 +114,9 @@ hollyspool draw FILE [--budget N] [--profile P] [--json]
 Searches as search does and prints the model as a digraph: a node for each location, with the
 variables that are there; nil is a box, and what is not allocated is dashed. For a picture:
 hollyspool draw FILE | dot -Tsvg > model.svg
+
+The numbers are only names, and the picture says so: with the locations from 1 to n renumbered, in
+stack and heap together, a model fits exactly if it fitted before. That is proved, in each profile.
 ";
 
 const TEXT: &str = "\

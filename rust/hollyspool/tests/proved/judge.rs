@@ -11,7 +11,7 @@ use second::model::{Model, UNALLOCATED};
 use crate::compare::{proved, MOST, PROFILES};
 
 /// Negations and septractions tell strong disjointness from plain, and so they come often.
-const OPERATORS: [u8; 16] = [1, 1, 2, 3, 3, 4, 5, 6, 7, 8, 8, 8, 9, 9, 10, 10];
+pub const OPERATORS: [u8; 16] = [1, 1, 2, 3, 3, 4, 5, 6, 7, 8, 8, 8, 9, 9, 10, 10];
 
 #[test]
 fn judge_lines() {
@@ -103,7 +103,7 @@ fn small_bounds() -> impl Iterator<Item = [u8; 3]> {
 }
 
 /// The bytes of every model.
-fn models([v, n, p]: [u8; 3]) -> Vec<Vec<u8>> {
+pub fn models([v, n, p]: [u8; 3]) -> Vec<Vec<u8>> {
     let [v, n, p] = [v, n, p].map(usize::from);
     let bounds = Bounds { v, n, p };
     let mut model = Model::default();
@@ -119,7 +119,7 @@ fn models([v, n, p]: [u8; 3]) -> Vec<Vec<u8>> {
 
 /// A model with few unallocated locations, whose cells share two values and whose variables two
 /// locations, so that parts often meet, and at unnamed locations.
-fn crowded(random: &mut Random, [v, n, _]: [u8; 3]) -> Vec<u8> {
+pub fn crowded(random: &mut Random, [v, n, _]: [u8; 3]) -> Vec<u8> {
     let shared = [random.up_to(n), random.up_to(n)];
     let named = [random.up_to(n), random.up_to(n)];
     let mut model = Vec::new();

@@ -11,5 +11,6 @@ mod judge;
 mod lines;
 mod made;
 mod program;
+mod renumbered;
 mod search;
 mod witness;

@@ -10,6 +10,7 @@ fn cells_variables_and_nil() {
         drawn.out,
         r#"digraph model {
   rankdir=LR;
+  label="numbers are only names: with others, nil staying put, the model fits as well";
   0 [shape=box, label="nil"];
   1 [shape=ellipse, style=solid, label="1\nx2 x3"];
   2 [shape=ellipse, style=solid, label="2\nx1"];

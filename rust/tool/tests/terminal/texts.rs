@@ -78,7 +78,8 @@ fn every_command() {
         (
             &["draw", "-", "--n", "1"],
             0,
-            "digraph model {\n  rankdir=LR;\n  0 [shape=box, label=\"nil\\nx\"];\n  \
+            "digraph model {\n  rankdir=LR;\n  label=\"numbers are only names: with others, nil staying \
+             put, the model fits as well\";\n  0 [shape=box, label=\"nil\\nx\"];\n  \
              1 [shape=ellipse, style=solid, label=\"1\\nhead\"];\n  1 -> 0;\n}\n",
         ),
         (&["text", "-"], 0, "(sep (pto v1 v2) (ls v2 sep.nil))\n"),
