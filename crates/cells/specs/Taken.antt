@@ -24,7 +24,7 @@ abbrev top1 : ℕ
 top1 = 9259542123273814144
 
 -- the top bit of each byte of w + low7: of each that is not 0 in w
-abbrev topsOf : ℕ → ℕ
+abbrev pub topsOf : ℕ → ℕ
 topsOf w = bitAnd (w + low7) top1
 
 -- such bits of four bytes, side by side
@@ -35,7 +35,7 @@ abbrev gatherOf : ℕ → ℕ
 gatherOf x = sideOf (x % 2 ^ 32) + 16 * sideOf (x / 2 ^ 32)
 
 -- the number with the top bit at each location of m
-abbrev topsFor : ℕ → ℕ
+abbrev pub topsFor : ℕ → ℕ
 topsFor m = numOf 256 most (λ i. pick (inPart m (suc i)) 128 0)
 
 gather-all : all full (λ m. eqb (gatherOf (topsFor m)) m) ≡ true
@@ -93,10 +93,10 @@ module _ (w : ℕ) (h : w < word) (k : Heap most (cells w)) where
           (and-zero-r (digit 256 (w + low7) i))
 
   -- the set by its bits
-  setOf : ℕ
+  unfoldable pub setOf : ℕ
   setOf = numOf 2 most (λ i. pick (allocated (cells w) (suc i)) 1 0)
 
-  set-taken : Taken w setOf
+  pub set-taken : Taken w setOf
   unfolding setOf inPart
   set-taken = record { small = numOf-lt 2 most (λ i. pick (allocated (cells w) (suc i)) 1 0) (λ i. bit-lt (allocated (cells w) (suc i))); member = each }
     where
@@ -116,7 +116,7 @@ module _ (w : ℕ) (h : w < word) (k : Heap most (cells w)) where
               in-past most (numOf 2 most (λ j. pick (allocated (cells w) (suc j)) 1 0)) (suc i) (numOf-lt 2 most (λ j. pick (allocated (cells w) (suc j)) 1 0) (λ j. bit-lt (allocated (cells w) (suc j)))) (omega arith)
               ∙ rw (cells-past w (suc i) h (omega arith))
 
-  tops-are : topsOf w ≡ topsFor setOf
+  pub tops-are : topsOf w ≡ topsFor setOf
   unfolding cells
   tops-are =
       same-cells (topsOf w) (topsFor setOf) (tops-small w) (numOf-lt 256 most (λ i. pick (inPart setOf (suc i)) 128 0) (λ i. tops-pick (inPart setOf (suc i))))

@@ -58,7 +58,7 @@ path-less k h q =
       different = λ i j l m. q .different (suc i) (suc j) (omega arith) (omega arith);
     }
 
-path-size : (n k : ℕ) (h : Map) → Heap n h → Path k h → k ≤ size n h
+pub path-size : (n k : ℕ) (h : Map) → Heap n h → Path k h → k ≤ size n h
 path-size n zero h g q = zero-le
 path-size n (suc k) h g q =
     let some : Allocated h (q .at 0) = λ z. absurd (omega (arith, z, q .link 0 (omega arith))) in

@@ -1,38 +1,54 @@
 // The paths of a heap, which is one number: whether one of them is too long.
-use cells::cell;
-use cells::placed;
-ghost use Prim.Native.Nat.{suc, _<_, _≤_};
+use cells::bit;
+ghost use mathlib.Core.Path.{_≡_};
+ghost use Prim.Native.Nat.{suc, _-_, _<_, _≤_};
 ghost use Rattle.logic.specs.Heap.{Heap};
 ghost use Rattle.logic.specs.Paths.{NoLongPath};
-ghost use Rattle.logic.specs.PathLaws.{PathFrom};
+ghost use Rattle.logic.specs.PathLaws.{size, PathFrom};
 ghost use Rattle.logic.specs.Reflect.{Is};
 ghost use Rattle.cells.specs.Cells.{most, cells};
 
-// Whether a simple path of more than p links starts at l: each cell that is left behind is taken out, so a location that is met
-// again is no longer as it is in w.
+// How many locations are allocated. A byte that is not 0 carries into its top bit; the remainder by 255 adds the bytes up.
+fn count(w: u64) -> u64
+    requires { ⌜ Heap most (cells w) ⌝ }
+    ensures { λ r. ⌜ r ≡ size most (cells w) ⌝ }
+{
+    (((w + 0x7f7f_7f7f_7f7f_7f7f) & 0x8080_8080_8080_8080) >> 7) % 255
+}
+
+// The digit at the location that has digit d: 0 at none, at nil, and where there is no cell. One test, as `cell` has it, and no
+// second one: the compiler then branches at neither.
+fn next(w: u64, d: u64) -> u64
+    requires { ⌜ d ≤ suc most ⌝ }
+    ensures { λ r. ⌜ r ≡ cells w (d - 1) ⌝ }
+{
+    if d < 2 {
+        return 0;
+    }
+    (w >> (8 * (d - 2))) % 256
+}
+
+// Whether a simple path of more than p links starts at l. The walk notes the digits that it meets, and from the start 0, in m: a
+// step that finds its digit there has no cell to go on from, or comes back, and is missed. It goes on all the same, so that no
+// branch waits for a heap.
 fn is_long_from(w: u64, l: u64, p: u64) -> bool
     requires { ⌜ (l ≤ most) × (p < most) × Heap most (cells w) ⌝ }
     ensures { λ r. ⌜ Is r (PathFrom (suc p) l (cells w)) ⌝ }
 {
-    let mut g = w;
-    let mut x = l;
+    let mut d = l + 1;
+    let mut m = 1 | bit(d);
+    let mut missed: u64 = 0;
     let mut i: u64 = 0;
     while i <= p {
-        let d = cell(g, x);
-        if d == 0 {
-            return false;
-        }
-        g = g ^ placed(d, x);
-        x = d - 1;
-        if cell(g, x) != cell(w, x) {
-            return false;
-        }
+        d = next(w, d);
+        missed = missed | (m >> d);
+        m = m | bit(d);
         i += 1;
     }
-    true
+    missed % 2 == 0
 }
 
-// Whether no simple path has more than p links. None has more than n.
+// Whether no simple path has more than p links. None has more than n, nor more than there are cells.
 pub fn is_short(n: u64, p: u64, w: u64) -> bool
     requires { ⌜ (n ≤ most) × Heap n (cells w) ⌝ }
     ensures { λ r. ⌜ Is r (NoLongPath p (cells w)) ⌝ }
@@ -40,12 +56,15 @@ pub fn is_short(n: u64, p: u64, w: u64) -> bool
     if n <= p {
         return true;
     }
-    let mut l = n;
-    while 0 < l {
+    if count(w) <= p {
+        return true;
+    }
+    let mut l: u64 = 1;
+    while l <= n {
         if is_long_from(w, l, p) {
             return false;
         }
-        l -= 1;
+        l += 1;
     }
     true
 }
