@@ -35,7 +35,7 @@ use Rattle.rowjudge.specs.declared.Setting.{Setting}
 use Rattle.rowjudge.specs.declared.Told.{Told}
 use Rattle.rowjudge.specs.Setting.{Ready, Within, Judged}
 use Rattle.assign.specs.Judging.{Judging}
-use Rattle.assign.specs.AssignedLaws.{assignment-long, set-low, assigned-in-range}
+use Rattle.solutions.specs.AssignedLaws.{assignment-long, set-low, assigned-in-range}
 
 -- ---- how many arrays and sets there are
 

@@ -1,8 +1,2 @@
 pub mod Judging
-pub mod AssignedLaws
 pub mod JudgingLaws
-pub mod ModelOf
-pub mod ModelOfLaws
-pub mod BytesOf
-pub mod BytesOfLaws
-pub mod Solutions

@@ -1,84 +1,19 @@
 // The contents of a problem book: whether they are as stated, and the stretch of the caller's bytes that is an entry's body.
+use entries::entries;
+use entries::word_at;
 use leaves::answer_of;
-use leaves::wide;
 use logic::Answer;
 ghost use mathlib.Core.Path.{_≡_};
-ghost use Prim.Native.Nat.{_+_, _<_, _≤_};
-ghost use lib.ListN.{length};
-ghost use Rattle.logic.specs.Checks.{Answers, _then_};
+ghost use Prim.Native.Nat.{_+_, _<_};
+ghost use Rattle.logic.specs.Checks.{Answers};
 ghost use Rattle.logic.specs.CheckLaws.{Yes};
-ghost use Rattle.logic.specs.Reflect.{Is};
-ghost use Rattle.logic.specs.Book.{word, offset, size, stretch, KindOk, StretchOk, entryChecks, contentsChecks, Given, Body, Placed};
+ghost use Rattle.logic.specs.Book.{offset, size, stretch, contentsChecks, Given, Body, Placed};
 
 // Where a body stands in the book.
 #[repr(C)]
 pub struct Stretch {
     pub start: u64,
     pub length: u64,
-}
-
-// Two bytes, low first.
-fn word_at(s: &[u8], i: usize) -> usize
-    requires { ⌜ i + 1 < length (now s) ⌝ }
-    ensures { λ r. ⌜ (r ≡ word (now (s .entry)) i) × (r < 65536) ⌝ }
-{
-    wide(s[i]) + 256 * wide(s[i + 1])
-}
-
-// Whether entry e, 0 or 1, has its kind.
-fn is_kind(book: &[u8], e: usize) -> bool
-    requires { ⌜ (11 ≤ length (now book)) × (e ≤ 1) ⌝ }
-    ensures { λ r. ⌜ Is r (KindOk (now (book .entry)) e) ⌝ }
-{
-    wide(book[1 + 5 * e]) == e + 1
-}
-
-// Whether entry 0's body starts at byte 11 and does not run past the book.
-fn is_first_placed(book: &[u8]) -> bool
-    requires { ⌜ 11 ≤ length (now book) ⌝ }
-    ensures { λ r. ⌜ Is r (StretchOk (now (book .entry)) 0) ⌝ }
-{
-    let start = word_at(book, 2);
-    if start != 11 {
-        return false;
-    }
-    start + word_at(book, 4) <= book.len()
-}
-
-// Whether entry 1's body starts where the first ends, and ends with the book.
-fn is_second_placed(book: &[u8]) -> bool
-    requires { ⌜ 11 ≤ length (now book) ⌝ }
-    ensures { λ r. ⌜ Is r (StretchOk (now (book .entry)) 1) ⌝ }
-{
-    let start = word_at(book, 7);
-    if start != word_at(book, 2) + word_at(book, 4) {
-        return false;
-    }
-    start + word_at(book, 9) == book.len()
-}
-
-// Whether the two entries are as they should be, the first before the second, and the kind before offset and length at each.
-fn entries(book: &[u8]) -> Answer
-    requires { ⌜ 11 ≤ length (now book) ⌝ }
-    ensures { λ r. ⌜ Answers (entryChecks (now (book .entry)) 0 then entryChecks (now (book .entry)) 1) Yes r ⌝ }
-{
-    let first_kind = is_kind(book, 0);
-    let first_placed = is_first_placed(book);
-    let second_kind = is_kind(book, 1);
-    let second_placed = is_second_placed(book);
-    if !first_kind {
-        return answer_of(logic::ENTRY_KIND, 0);
-    }
-    if !first_placed {
-        return answer_of(logic::ENTRY_STRETCH, 0);
-    }
-    if !second_kind {
-        return answer_of(logic::ENTRY_KIND, 1);
-    }
-    if !second_placed {
-        return answer_of(logic::ENTRY_STRETCH, 1);
-    }
-    answer_of(logic::YES, 0)
 }
 
 // Whether the contents are as stated: number 0, or the refusal of the first part that is not.

@@ -1,72 +1,15 @@
 // The nodes of a formula: whether each has an operator and operands as it should.
 use leaves::answer_of;
-use leaves::wide;
 use logic::Answer;
+use operands::Kinds;
+use operands::operands;
 ghost use mathlib.Core.Path.{_≡_};
-ghost use Prim.Native.Nat.{_+_, _*_, _<_, _≤_};
+ghost use Prim.Native.Nat.{_+_, _*_, _<_};
 ghost use lib.ListN.{length};
 ghost use Rattle.logic.specs.Checks.{Answers, upto};
 ghost use Rattle.logic.specs.CheckLaws.{Yes};
-ghost use Rattle.logic.specs.Reflect.{Is};
-ghost use Rattle.logic.specs.Table.{opOf, kindOf, Operand, OperandOk, OperandsOk};
 ghost use Rattle.logic.specs.Book.{nodeChecks, nodes as nodesIn};
-ghost use Rattle.nodes.specs.Kinds.{rows};
-
-// What the operands a and b of operators 1 to 10 are: 0 zero, 1 a variable, 2 a child.
-type Kinds = [[u8; 2]; 10];
-
-const KINDS: Kinds = [
-    [1, 1],
-    [1, 1],
-    [1, 1],
-    [1, 1],
-    [2, 2],
-    [2, 2],
-    [2, 2],
-    [2, 0],
-    [2, 2],
-    [2, 2],
-];
-
-// What operand a (side 0) or b (side 1) of that operator is.
-fn kind(kinds: &Kinds, op: u8, side: usize) -> u8
-    requires { ⌜ (now kinds ≡ rows) × (1 ≤ op) × (op ≤ 10) × (side < 2) ⌝ }
-    ensures { λ r. ⌜ r ≡ kindOf op side ⌝ }
-{
-    let i = (op - 1) as usize;
-    kinds[i][side]
-}
-
-// Whether x may be an operand of that kind at node k.
-fn is_operand(v: u8, k: usize, kind: u8, x: u8) -> bool
-    ensures { λ r. ⌜ Is r (Operand v k kind x) ⌝ }
-{
-    match kind {
-        0 => x == 0,
-        1 => x <= v,
-        _ => wide(x) < k,
-    }
-}
-
-// Whether operand a (side 0) or b (side 1) of node k is as it should be.
-fn operand(kinds: &Kinds, f: &[u8], v: u8, k: usize, op: u8, side: usize) -> bool
-    requires { ⌜ (now kinds ≡ rows) × (3 * k + (1 + side) < length (now f)) × (op ≡ opOf (now f) k) × (1 ≤ op) × (op ≤ 10) × (side < 2) ⌝ }
-    ensures { λ r. ⌜ Is r (OperandOk v (now (f .entry)) k side) ⌝ }
-{
-    is_operand(v, k, kind(kinds, op, side), f[3 * k + (1 + side)])
-}
-
-// Whether both operands of node k are as they should be.
-fn operands(kinds: &Kinds, f: &[u8], v: u8, k: usize, op: u8) -> bool
-    requires { ⌜ (now kinds ≡ rows) × (3 * k + 2 < length (now f)) × (op ≡ opOf (now f) k) × (1 ≤ op) × (op ≤ 10) ⌝ }
-    ensures { λ r. ⌜ Is r (OperandsOk v (now (f .entry)) k) ⌝ }
-{
-    if operand(kinds, f, v, k, op, 0) {
-        operand(kinds, f, v, k, op, 1)
-    } else {
-        false
-    }
-}
+ghost use Rattle.operands.specs.Kinds.{rows};
 
 fn node(kinds: &Kinds, f: &[u8], v: u8, k: usize) -> Answer
     requires { ⌜ (now kinds ≡ rows) × (3 * k + 2 < length (now f)) ⌝ }
@@ -88,7 +31,7 @@ fn node(kinds: &Kinds, f: &[u8], v: u8, k: usize) -> Answer
 pub fn nodes(f: &[u8], v: u8) -> Answer
     ensures { λ r. ⌜ Answers (upto (nodeChecks v (now (f .entry))) (nodesIn (now (f .entry)))) Yes r ⌝ }
 {
-    let kinds = KINDS;
+    let kinds = operands::KINDS;
     let n = f.len() / 3;
     let mut left = n;
     while 0 < left {
