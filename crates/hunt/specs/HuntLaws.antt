@@ -13,6 +13,7 @@ use Rattle.logic.specs.Numbers.{yes-number, no-number, spent-number}
 use Rattle.logic.specs.Heap.{Map}
 use Rattle.logic.specs.Formula.{Form}
 use Rattle.logic.specs.Table.{Sound}
+use Rattle.logic.specs.Book.{most as mostListed}
 use Rattle.logic.specs.Reflect.{Is}
 use Rattle.logic.specs.Model.{Fits}
 use Rattle.logic.specs.Candidates.{total, modelBytes, modelOf}
@@ -27,13 +28,14 @@ use Rattle.hunt.specs.Hunt.{At, Going, Hunted}
 
 -- the setting of a candidate, where x is the profile's number, and the judge's word on it, which is on its number
 module _ (π : Profile) (x : ℕ) (e : profileFrom x ≡ π) (c : Candidate) (p : ℕ) (ok : WithinBounds c) where
-  pub ready : (f : List ℕ) (k u : ℕ) → k < room → Sound (c .vars) f (suc k) → Barred π (c .vars) (c .locs) (cells (c .stack)) u → Ready f (c .vars ∷ c .locs ∷ p ∷ c .stack ∷ u ∷ x ∷ []) k
-  ready f k u l sound q =
+  pub ready : (f : List ℕ) (k u : ℕ) → k < room → Sound (c .vars) f (suc k) → Barred π (c .vars) (c .locs) (cells (c .stack)) u → c .locs ≤ mostListed → Ready f (c .vars ∷ c .locs ∷ p ∷ c .stack ∷ u ∷ x ∷ []) k
+  ready f k u l sound q listed =
       record {
         inside = l;
         sound = sound;
         fewVars = ok .fewVars;
         fewLocs = ok .fewLocs;
+        listed = listed;
         stack = ok .stack;
         barred = subst (λ (ρ : Profile). Barred ρ (c .vars) (c .locs) (cells (c .stack)) u) (sym e) q;
       }

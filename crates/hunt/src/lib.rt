@@ -5,6 +5,7 @@ use judge::node_holds;
 use logic::Answer;
 use logic::Profile;
 use logic::Table;
+use pairs::Pairs;
 use paths::is_short;
 ghost use mathlib.Core.Path.{_≡_};
 ghost use mathlib.Core.Logic.{_⊎_};
@@ -12,8 +13,10 @@ ghost use Prim.Native.Nat.{suc, _≤_, _<_};
 ghost use lib.Dec.{leb};
 ghost use Rattle.logic.specs.Table.{Sound, tree};
 ghost use Rattle.logic.specs.Reflect.{Is};
+ghost use Rattle.logic.specs.Book.{most};
 ghost use Rattle.logic.specs.Search.{CandidateFits, searched};
-ghost use Rattle.cells.specs.Cells.{most, cells, Barred};
+ghost use Rattle.cells.specs.Cells.{cells, Barred};
+ghost use Rattle.pairs.specs.Pairs.{Listed};
 ghost use Rattle.judge.specs.Setting.{room};
 ghost use Rattle.candidates.specs.Counter.{WithinBounds, number};
 ghost use Rattle.hunt.specs.Hunt.{Hunted};
@@ -31,13 +34,14 @@ fn barred_for(profile: Profile, c: Candidate, u: u64) -> u64
 }
 
 // Whether the candidate fits node k of the table f; u is the set of the locations at which two heaps may not meet. The two tests
-// of `judge::fits` stand here themselves: most candidates fail the first, and it is then part of the loop.
-fn fits(profile: Profile, f: &Table, k: usize, p: u64, c: Candidate, u: u64) -> bool
-    requires { ⌜ (k < room) × Sound (c .vars) (now f) (suc k) × WithinBounds c × Barred profile (c .vars) (c .locs) (cells (c .stack)) u ⌝ }
+// of `judge::fits` stand here themselves: most candidates fail the first, and it is then part of the loop. pairs is the table of
+// sets and parts, one for all candidates.
+fn fits(profile: Profile, f: &Table, k: usize, p: u64, c: Candidate, u: u64, pairs: &Pairs) -> bool
+    requires { ⌜ (k < room) × Sound (c .vars) (now f) (suc k) × WithinBounds c × Barred profile (c .vars) (c .locs) (cells (c .stack)) u × (c .locs ≤ most) × Listed (now pairs) ⌝ }
     ensures { λ r. ⌜ Is r (CandidateFits profile (c .vars) (c .locs) p (tree (now (f .entry)) k) (number c)) ⌝ }
 {
     let b = [c.vars, c.locs, p, c.stack, u, judge::number(profile)];
-    if node_holds(f, k, &b, c.heap) {
+    if node_holds(f, k, &b, c.heap, pairs) {
         is_short(c.locs, p, c.heap)
     } else {
         false
@@ -81,13 +85,14 @@ pub fn hunt(profile: Profile, f: &Table, k: usize, v: u64, n: u64, p: u64, budge
     requires { ⌜ (k < room) × Sound v (now f) (suc k) × (v ≤ most) × (n ≤ most) ⌝ }
     ensures { λ r. ⌜ Hunted v n (CandidateFits profile v n p (tree (now (f .entry)) k)) budget (r .answer) (r .at) ⌝ }
 {
+    let pairs = pairs::pairs();
     let t = candidates::total(v, n);
     let end = least(t, budget);
     let mut c = Candidate::first(v, n);
     let mut u = barred_for(profile, c, 0);
     let mut i: u64 = 0;
     while i < end {
-        if fits(profile, f, k, p, c, u) {
+        if fits(profile, f, k, p, c, u, &pairs) {
             return stop(logic::YES, i + 1, c);
         }
         c = c.next();

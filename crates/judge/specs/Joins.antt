@@ -34,6 +34,7 @@ module _ (f b : List ℕ) (k : ℕ) (jn : Joined f b k) where
         sound = λ j h. rd .sound j (omega arith);
         fewVars = rd .fewVars;
         fewLocs = rd .fewLocs;
+        listed = rd .listed;
         stack = rd .stack;
         barred = rd .barred;
       }

@@ -4,3 +4,4 @@ pub mod Joins
 pub mod Trial
 pub mod Adding
 pub mod Fitting
+pub mod Walk

@@ -10,10 +10,11 @@ use Rattle.logic.specs.declared.Profile.the-variants.{Strong, Ordinary}
 use Rattle.logic.specs.Heap.{Map, Stack, Heap, Disjoint}
 use Rattle.logic.specs.Formula.{Form}
 use Rattle.logic.specs.Table.{opOf, operandOf, Sound, tree}
-use Rattle.logic.specs.Book.{mostNodes}
+use Rattle.logic.specs.Book.{mostNodes, most as mostListed}
 use Rattle.logic.specs.Tests.{inPart, union, sepAt}
 use Rattle.logic.specs.Truth.{truth}
 use Rattle.logic.specs.Reflect.{Is}
+use Rattle.pairs.specs.Pairs.{partAt, Inside}
 use Rattle.cells.specs.Cells.{most, full, cells, Sub, Barred, Touches, Met}
 
 -- a setting b has six numbers, the same for every node: v, n, p, the packed stack, the set of the locations where two pieces
@@ -50,6 +51,7 @@ pub record Ready (f b : List ℕ) (k : ℕ) : Type 0 where
   pub sound : Sound (varsOf b) f (suc k)
   pub fewVars : varsOf b ≤ most
   pub fewLocs : locsOf b ≤ most
+  pub listed : locsOf b ≤ mostListed
   pub stack : Stack (varsOf b) (locsOf b) (stackOf b)
   pub barred : Barred (profileOf b) (varsOf b) (locsOf b) (stackOf b) (barredOf b)
 
@@ -125,3 +127,8 @@ Tried π v n s A B h l y d = (z : Map) → Serves π v n s A B h z → Above l z
 pub record Trying (F : ℕ → Bool) (a m : ℕ) : Type 0 where
   pub sub : Sub m a
   pub failed : (i : ℕ) → i < m → F i ≡ false
+
+-- the walk along the table t is at place i of the stretch of a, and the trial at the part that stands there
+pub record Walking (t : List ℕ) (F : ℕ → Bool) (a i : ℕ) : Type 0 where
+  pub inside : Inside t i a
+  pub trying : Trying F a (partAt t i)

@@ -17,7 +17,8 @@ use Rattle.logic.specs.Reflect.{is-same, Is, false-true, is-self, is-all, is-an
 use Rattle.logic.specs.Agree.{is-apart, first-heap, second-heap}
 use Rattle.cells.specs.Cells.{most, full, cells, Sub, Spread, Taken, Barred, Tabled, Clear}
 use Rattle.cells.specs.Sets.{in-and, in-past, same-set, set-small}
-use Rattle.cells.specs.Subsets.{next-least, next-above, and-sub}
+use Rattle.cells.specs.Subsets.{and-sub}
+use Rattle.pairs.specs.Steps.{after, sub-le, after-least}
 use Rattle.cells.specs.Heaps.{part-is, rest-is, part-rest}
 use Rattle.cells.specs.Tables.{part-tabled, rest-tabled, is-disjoint}
 use Rattle.judge.specs.Setting.{Chosen, Trying}
@@ -36,14 +37,11 @@ chosen-any F n r few q =
     go (nothing e f) =
         record { to = λ t. absurd (omega (arith, ltb-true r full t)); from = λ q. false-true (sym (f (q .0) (q .1)) ∙ q .2) }
 
-pub sub-le : (m a : ℕ) → Sub m a → m ≤ a
-sub-le m a s = subst (λ (x : ℕ). x ≤ a) s (and-le-r m a)
-
 pub trying-first : (F : ℕ → Bool) (a : ℕ) → Trying F a 0
 trying-first F a = record { sub = and-zero-l a; failed = λ i l. absurd (not-suc-le-zero l) }
 
 module _ (n w a : ℕ) (few : n ≤ most) (kw : Heap n (cells w)) (t : Taken w a) where
-  taken-small : a < 2 ^ n
+  pub taken-small : a < 2 ^ n
   taken-small = set-small n most a (t .small) (λ ℓ l. t .member ℓ ∙ rw (kw .past ℓ l))
 
   sub-in : (m ℓ : ℕ) → Sub m a → inPart m ℓ ≡ true → allocated (cells w) ℓ ≡ true
@@ -103,21 +101,13 @@ module _ (n w a : ℕ) (few : n ≤ most) (kw : Heap n (cells w)) (t : Taken w a
         go (no l) (no d) = hi i (above l d)
 
     module _ (m : ℕ) (q : Trying F a m) where
-      pub trying-next : ¬ (m ≡ a) → F m ≡ false → (m < bitAnd (m + (full - a)) a) × Trying F a (bitAnd (m + (full - a)) a)
-      trying-next ne fm =
-          let ta = t .small in
-          let lm = sub-le m a (q .sub) in
-          let c = full - 1 - a in
-          let whole : c + a + 1 ≡ 2 ^ most = omega arith in
-          let e : m + (full - a) ≡ m + c + 1 = omega arith in
-          rw e (
-            next-above most m a c whole (q .sub) (omega arith),
-            record {
-              sub = and-sub most (m + c + 1) a ta;
-              failed = upTo (λ i. i < bitAnd (m + c + 1) a → F i ≡ false) m (λ i l _. q .failed i l) (λ _. fm)
-                  (λ i l k. passed i (lt-of-lt-of-le k (below (and-le-r (m + c + 1) a))) (λ s. absurd (omega (arith, next-least most m a c i whole (q .sub) s l))));
-            },
-          )
+      pub trying-next : F m ≡ false → Trying F a (after a m)
+      trying-next fm =
+          record {
+            sub = and-sub most (m + (full - a)) a (t .small);
+            failed = upTo (λ i. i < after a m → F i ≡ false) m (λ i l _. q .failed i l) (λ _. fm)
+                (λ i l k. passed i (lt-of-lt-of-le k (below (and-le-r (m + (full - a)) a))) (λ s. absurd (omega (arith, after-least a m (t .small) (q .sub) i s l))));
+          }
         where
           below : {x : ℕ} → x ≤ a → x ≤ 2 ^ n
           below l = omega (arith, taken-small)

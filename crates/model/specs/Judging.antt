@@ -33,6 +33,7 @@ module _ (π : Profile) (x : ℕ) (e : profileFrom x ≡ π) (v n p : ℕ) (f t 
         sound = let long : nodes f ≡ suc (length f / 3 - 1) = omega (arith, j .table .some) in subst (Sound v t) long (same-sound f t same v (nodes f) (j .table .sound));
         fewVars = omega (arith, j .fewVars);
         fewLocs = omega (arith, j .fewLocs);
+        listed = j .fewLocs;
         stack = j .stack;
         barred = subst (λ (ρ : Profile). Barred ρ v n (cells s) u) (sym e) un;
       }

@@ -17,7 +17,7 @@ use Rattle.logic.specs.Candidates.{modelBytes}
 use Rattle.logic.specs.Strays.{nameChecks}
 use Rattle.logic.specs.Search.{CandidateFits, FitsAt, roomChecks, searchRest, Searches}
 use Rattle.logic.specs.SearchLaws.{searches-rest, searches-wrote, searches-kept}
-use Rattle.cells.specs.Cells.{most as mostPacked, cells}
+use Rattle.cells.specs.Cells.{cells}
 use Rattle.judge.specs.Setting.{room}
 use Rattle.packing.specs.SameTable.{same-tree, same-sound}
 use Rattle.candidates.specs.declared.Candidate.{Candidate}
@@ -28,10 +28,10 @@ use Rattle.hunt.specs.HuntLaws.{at-model}
 -- ---- the formula f, and the hunt in a table t with the same bytes
 
 module _ (v n : ℕ) (f t : List ℕ) (same : (i : ℕ) → getD t i 0 ≡ getD f i 0) where
-  pub hunt-ready : Known v f → v ≤ most → n ≤ most → (root f < room) × Sound v t (suc (root f)) × (v ≤ mostPacked) × (n ≤ mostPacked)
+  pub hunt-ready : Known v f → v ≤ most → n ≤ most → (root f < room) × Sound v t (suc (root f)) × (v ≤ most) × (n ≤ most)
   hunt-ready q lv ln =
       let last : nodes f ≡ suc (root f) = omega (arith, q .some) in
-      (omega (arith, q .few, q .some), same-sound f t same v (suc (root f)) (subst (Sound v f) last (q .sound)), omega arith, omega arith)
+      (omega (arith, q .few, q .some), same-sound f t same v (suc (root f)) (subst (Sound v f) last (q .sound)), lv, ln)
 
   pub hunted-in : (π : Profile) (p budget : ℕ) (a : Answer) (c : Candidate) → Hunted v n (CandidateFits π v n p (tree t (root f))) budget a c → Hunted v n (CandidateFits π v n p (tree f (root f))) budget a c
   hunted-in π p budget a c q = subst (λ (F : Form). Hunted v n (CandidateFits π v n p F) budget a c) (same-tree f t same (root f)) q

@@ -15,8 +15,8 @@ node-holds-requires c κs =
     let a = b .args in
     let q = b .pre in
     let m = c .before .number in
-    let rd = ready (a .profile) (m .result) (m .ensures) (a .c) (a .p) (q .2) (a .f .now) (a .k) (a .u) (q .0) (q .1) (q .3) in
-    (rd, q .2 .heap)
+    let rd = ready (a .profile) (m .result) (m .ensures) (a .c) (a .p) (q .2) (a .f .now) (a .k) (a .u) (q .0) (q .1) (q .3) (q .4) in
+    (rd, q .2 .heap, q .5)
 
 is-short-requires : tie.Need-is-short-requires
 is-short-requires c κs = search needs
@@ -27,7 +27,7 @@ returns c =
     let a = b .args in
     let q = b .pre in
     let m = c .before .before .before .before .number in
-    let rd = ready (a .profile) (m .result) (m .ensures) (a .c) (a .p) (q .2) (a .f .now) (a .k) (a .u) (q .0) (q .1) (q .3) in
+    let rd = ready (a .profile) (m .result) (m .ensures) (a .c) (a .p) (q .2) (a .f .now) (a .k) (a .u) (q .0) (q .1) (q .3) (q .4) in
     fits-is (a .profile) (m .result) (m .ensures) (a .c) (a .p) (q .2) (tree (a .f .now) (a .k)) _
     (fits-short (a .f .now) _ (a .k) rd _ (q .2 .heap) _ (c .before .before .node-holds .ensures) (c .before .if1 .taken) _ (c .is-short .ensures))
 
@@ -37,7 +37,7 @@ returns-2 c =
     let a = b .args in
     let q = b .pre in
     let m = c .before .before .before .number in
-    let rd = ready (a .profile) (m .result) (m .ensures) (a .c) (a .p) (q .2) (a .f .now) (a .k) (a .u) (q .0) (q .1) (q .3) in
+    let rd = ready (a .profile) (m .result) (m .ensures) (a .c) (a .p) (q .2) (a .f .now) (a .k) (a .u) (q .0) (q .1) (q .3) (q .4) in
     fits-is (a .profile) (m .result) (m .ensures) (a .c) (a .p) (q .2) (tree (a .f .now) (a .k)) _
     (fits-not (a .f .now) _ (a .k) rd _ (q .2 .heap) _ (c .before .node-holds .ensures) (c .if1 .left))
 

@@ -6,6 +6,7 @@ use mathlib.Core.Logic.{_⊎_}
 use native.Mathlib.Omega.{arith}
 use borrow.Author.Tests.{leb-true, leb-false}
 use Rattle.logic.specs.Table.{Sound, tree}
+use Rattle.logic.specs.Book.{most}
 use Rattle.logic.specs.Reflect.{fails}
 use Rattle.logic.specs.Candidates.{total}
 use Rattle.logic.specs.Search.{CandidateFits}
@@ -15,10 +16,13 @@ use Rattle.hunt.proofs.hunt.Statement.{statement}
 use Rattle.hunt.proofs.hunt.Tie as tie
 
 abbrev Inv-loop : tie.InvT-loop
-Inv-loop π f k v n p budget t end c₀ u₀ i₀ c u i = Going π v n (CandidateFits π v n p (tree f k)) i c u × (i ≤ end) × (end ≤ t) × (end ≤ budget) × ((end ≡ t) ⊎ (end ≡ budget)) × (t ≡ total v n)
+Inv-loop π f k v n p budget pairs t end c₀ u₀ i₀ c u i = Going π v n (CandidateFits π v n p (tree f k)) i c u × (i ≤ end) × (end ≤ t) × (end ≤ budget) × ((end ≡ t) ⊎ (end ≡ budget)) × (t ≡ total v n)
 
 abbrev μ-loop : tie.MeasureT-loop
-μ-loop π f k v n p budget t end c₀ u₀ i₀ c u i = end - i
+μ-loop π f k v n p budget pairs t end c₀ u₀ i₀ c u i = end - i
+
+pairs-requires : tie.Need-pairs-requires Inv-loop μ-loop
+pairs-requires c κs = search needs
 
 total-requires : tie.Need-total-requires Inv-loop μ-loop
 total-requires c κs = search needs
@@ -40,8 +44,8 @@ loop-holds c =
 
 fits-requires : tie.Need-fits-requires Inv-loop μ-loop
 fits-requires c κs =
-    let g = c .before .loop .inv .0 in
-    (omega arith, subst (λ (v : ℕ). Sound v (c .before .before .before .before .before .before .args .f .now) (suc (c .before .before .before .before .before .before .args .k))) (sym (g .vars)) (c .before .before .before .before .before .before .pre .1), g .range, g .barred)
+    let g = c .before .before .loop .inv .0 in
+    (omega arith, subst (λ (v : ℕ). Sound v (c .before .before .before .before .before .before .before .before .args .f .now) (suc (c .before .before .before .before .before .before .before .before .args .k))) (sym (g .vars)) (c .before .before .before .before .before .before .before .before .pre .1), g .range, g .barred, subst (λ (n : ℕ). n ≤ most) (sym (g .locs)) (c .before .before .before .before .before .before .before .before .pre .3), c .before .before .before .before .before .before .before .pairs .ensures)
 
 add-stop : tie.Need-add-stop Inv-loop μ-loop
 add-stop c = omega arith
@@ -51,18 +55,18 @@ stop-requires c κs = search needs
 
 returns : tie.Need-returns Inv-loop μ-loop
 returns c =
-    let a = c .before .before .before .before .before .before .before .before .before .args in
-    let l = c .before .before .before .before .loop in
+    let a = c .before .before .before .before .before .before .before .before .before .before .before .args in
+    let l = c .before .before .before .before .before .loop in
     let m : l .i < total (a .v) (a .n) = omega (arith, l .inv .5) in
     let y = going-fits (a .profile) (a .v) (a .n) (a .p) (tree (a .f .now) (a .k)) (l .i) (l .u) (l .c) (l .inv .0) m _ (c .before .before .fits2 .ensures) .to (c .before .if1 .taken) in
     hunted-as (a .v) (a .n) (CandidateFits (a .profile) (a .v) (a .n) (a .p) (tree (a .f .now) (a .k))) (a .budget) _ _ _ _ (c .stop .ensures .0) (c .stop .ensures .1)
     (hunted-found (a .profile) (a .v) (a .n) (CandidateFits (a .profile) (a .v) (a .n) (a .p) (tree (a .f .now) (a .k))) (l .i) (l .u) (l .c) (l .inv .0) m (a .budget) (omega arith) y)
 
 next-requires : tie.Need-next-requires Inv-loop μ-loop
-next-requires c κs = c .before .before .before .loop .inv .0 .range
+next-requires c κs = c .before .before .before .before .loop .inv .0 .range
 
 barred-for-requires-2 : tie.Need-barred-for-requires-2 Inv-loop μ-loop
-barred-for-requires-2 c κs = (c .next .ensures .range, barred-kept _ _ _ _ (c .next .ensures) (c .before .before .before .before .loop .inv .0 .barred))
+barred-for-requires-2 c κs = (c .next .ensures .range, barred-kept _ _ _ _ (c .next .ensures) (c .before .before .before .before .before .loop .inv .0 .barred))
 
 add-i : tie.Need-add-i Inv-loop μ-loop
 add-i c = omega arith
@@ -72,8 +76,8 @@ loop-less c = omega arith
 
 loop-again : tie.Need-loop-again Inv-loop μ-loop
 loop-again c =
-    let a = c .before .before .before .before .before .before .before .before .before .before .args in
-    let l = c .before .before .before .before .before .loop in
+    let a = c .before .before .before .before .before .before .before .before .before .before .before .before .args in
+    let l = c .before .before .before .before .before .before .loop in
     let m : l .i < total (a .v) (a .n) = omega (arith, l .inv .5) in
     let f = fails _ (going-fits (a .profile) (a .v) (a .n) (a .p) (tree (a .f .now) (a .k)) (l .i) (l .u) (l .c) (l .inv .0) m _ (c .before .before .before .fits2 .ensures)) (c .before .before .if1 .left) in
     (going-next (a .profile) (a .v) (a .n) (CandidateFits (a .profile) (a .v) (a .n) (a .p) (tree (a .f .now) (a .k))) (l .i) (l .u) (l .c) (l .inv .0) m (c .before .next .result) (c .barred-for2 .result) (c .before .next .ensures) (c .barred-for2 .ensures) f, omega arith, l .inv .2, l .inv .3, l .inv .4, l .inv .5)
@@ -86,7 +90,7 @@ stop-requires-2 c κs = search needs
 
 returns-2 : tie.Need-returns-2 Inv-loop μ-loop
 returns-2 c =
-    let a = c .before .before .before .before .before .before .before .before .before .args in
+    let a = c .before .before .before .before .before .before .before .before .before .before .args in
     let l = c .before .before .before .before .loop in
     let e = leb-true _ _ (sym (c .before .before .enough .ensures) ∙ c .before .if2 .taken) in
     hunted-as (a .v) (a .n) (CandidateFits (a .profile) (a .v) (a .n) (a .p) (tree (a .f .now) (a .k))) (a .budget) _ _ _ _ (c .stop2 .ensures .0) (c .stop2 .ensures .1)
@@ -97,7 +101,7 @@ stop-requires-3 c κs = search needs
 
 returns-3 : tie.Need-returns-3 Inv-loop μ-loop
 returns-3 c =
-    let a = c .before .before .before .before .before .before .before .before .before .args in
+    let a = c .before .before .before .before .before .before .before .before .before .before .args in
     let l = c .before .before .before .before .loop in
     let e = leb-false _ _ (sym (c .before .before .enough .ensures) ∙ c .before .if2 .left) in
     hunted-as (a .v) (a .n) (CandidateFits (a .profile) (a .v) (a .n) (a .p) (tree (a .f .now) (a .k))) (a .budget) _ _ _ _ (c .stop3 .ensures .0) (c .stop3 .ensures .1)
@@ -109,6 +113,7 @@ hunt-spec =
     (tie.spec
     Inv-loop
     μ-loop
+    pairs-requires
     total-requires
     least-requires
     first-requires

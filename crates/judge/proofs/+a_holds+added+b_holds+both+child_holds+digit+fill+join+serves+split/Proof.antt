@@ -19,9 +19,14 @@ use Rattle.cells.proofs.source_below.Reads as source-below-reads
 use Rattle.cells.proofs.spread.Reads as spread-reads
 use Rattle.cells.proofs.table.Reads as table-reads
 use Rattle.cells.proofs.taken.Reads as taken-reads
-use Rattle.judge.specs.Setting.{varsOf, locsOf, profileOf, stackOf, truthAt, firstAt, secondAt, servesAt, Trying, Tried}
+use Rattle.pairs.specs.Pairs.{size}
+use Rattle.pairs.specs.Steps.{sub-le}
+use Rattle.pairs.proofs.begin.Reads as begin-reads
+use Rattle.pairs.proofs.part_at.Reads as part-at-reads
+use Rattle.judge.specs.Setting.{varsOf, locsOf, profileOf, stackOf, truthAt, firstAt, secondAt, servesAt, Tried, Walking}
 use Rattle.judge.specs.Joins.{operator-low, operator-high, lower-a, lower-b, ready-below, truth-5, truth-6, truth-7, truth-8, truth-9, truth-10, and-first, and-second}
-use Rattle.judge.specs.Trial.{chosen-any, sub-le, trying-first, sub-within, trying-next, trying-none, trying-found, part-is-heap, rest-is-heap, serves-not-apart, serves-both, sep-out}
+use Rattle.judge.specs.Trial.{chosen-any, sub-within, trying-none, trying-found, part-is-heap, rest-is-heap, serves-not-apart, serves-both, sep-out}
+use Rattle.judge.specs.Walk.{walk-trying, walk-first, taken-listed, walk-next}
 use Rattle.judge.specs.Adding.{fill-first, whole-heap, fill-less, put-filled, fill-skip, fill-clash, put-found, fill-last, tried-none, tried-more, tried-found, tried-all, added-is}
 use Rattle.judge.proofs.a_holds.Reads as a-holds
 use Rattle.judge.proofs.a_holds.Kinds as a-holds-kinds
@@ -58,97 +63,97 @@ use Rattle.leaves.proofs.wide.Reads as wide-reads
 use Rattle.judge.proofs.+a_holds+added+b_holds+both+child_holds+digit+fill+join+serves+split.{statement}
 use Rattle.judge.proofs.+a_holds+added+b_holds+both+child_holds+digit+fill+join+serves+split.Tie.{close}
 
-abbrev μ-a-holds : Measures 2 a-holds-kinds.ps ℕ
+abbrev μ-a-holds : Measures 3 a-holds-kinds.ps ℕ
 μ-a-holds κs a = 32 * (a .1 .0)
 
-abbrev μ-added : Measures 2 added-kinds.ps ℕ
+abbrev μ-added : Measures 3 added-kinds.ps ℕ
 μ-added κs a = 32 * (a .1 .0) + 22
 
-abbrev μ-b-holds : Measures 2 b-holds-kinds.ps ℕ
+abbrev μ-b-holds : Measures 3 b-holds-kinds.ps ℕ
 μ-b-holds κs a = 32 * (a .1 .0)
 
-abbrev μ-both : Measures 2 both-kinds.ps ℕ
+abbrev μ-both : Measures 3 both-kinds.ps ℕ
 μ-both κs a = 32 * (a .1 .0) + 1
 
-abbrev μ-child-holds : Measures 2 child-holds-kinds.ps ℕ
+abbrev μ-child-holds : Measures 3 child-holds-kinds.ps ℕ
 μ-child-holds κs a = 32 * (a .1 .0) + 24
 
-abbrev μ-digit : Measures 2 digit-kinds.ps ℕ
+abbrev μ-digit : Measures 3 digit-kinds.ps ℕ
 μ-digit κs a = 32 * (a .1 .0) + 2 * (a .1 .1 .1 .1 .1 .0) + 3
 
-abbrev μ-fill : Measures 2 fill-kinds.ps ℕ
+abbrev μ-fill : Measures 3 fill-kinds.ps ℕ
 μ-fill κs a = 32 * (a .1 .0) + 2 * (a .1 .1 .1 .1 .1 .0) + 4
 
-abbrev μ-join : Measures 2 join-kinds.ps ℕ
+abbrev μ-join : Measures 3 join-kinds.ps ℕ
 μ-join κs a = 32 * (a .1 .0) + 23
 
-abbrev μ-serves : Measures 2 serves-kinds.ps ℕ
+abbrev μ-serves : Measures 3 serves-kinds.ps ℕ
 μ-serves κs a = 32 * (a .1 .0) + 2
 
-abbrev μ-split : Measures 2 split-kinds.ps ℕ
+abbrev μ-split : Measures 3 split-kinds.ps ℕ
 μ-split κs a = 32 * (a .1 .0) + 22
 
-abbrev a-holds-at : ℕ → In 2 a-holds-kinds.ps
-a-holds-at t = and 2 a-holds-kinds.ps (is 2 a-holds-kinds.ps μ-a-holds t) a-holds.Pre
+abbrev a-holds-at : ℕ → In 3 a-holds-kinds.ps
+a-holds-at t = and 3 a-holds-kinds.ps (is 3 a-holds-kinds.ps μ-a-holds t) a-holds.Pre
 
-abbrev a-holds-below : ℕ → In 2 a-holds-kinds.ps
-a-holds-below t = and 2 a-holds-kinds.ps (falls 2 a-holds-kinds.ps _<_ μ-a-holds t) a-holds.Pre
+abbrev a-holds-below : ℕ → In 3 a-holds-kinds.ps
+a-holds-below t = and 3 a-holds-kinds.ps (falls 3 a-holds-kinds.ps _<_ μ-a-holds t) a-holds.Pre
 
-abbrev added-at : ℕ → In 2 added-kinds.ps
-added-at t = and 2 added-kinds.ps (is 2 added-kinds.ps μ-added t) added.Pre
+abbrev added-at : ℕ → In 3 added-kinds.ps
+added-at t = and 3 added-kinds.ps (is 3 added-kinds.ps μ-added t) added.Pre
 
-abbrev added-below : ℕ → In 2 added-kinds.ps
-added-below t = and 2 added-kinds.ps (falls 2 added-kinds.ps _<_ μ-added t) added.Pre
+abbrev added-below : ℕ → In 3 added-kinds.ps
+added-below t = and 3 added-kinds.ps (falls 3 added-kinds.ps _<_ μ-added t) added.Pre
 
-abbrev b-holds-at : ℕ → In 2 b-holds-kinds.ps
-b-holds-at t = and 2 b-holds-kinds.ps (is 2 b-holds-kinds.ps μ-b-holds t) b-holds.Pre
+abbrev b-holds-at : ℕ → In 3 b-holds-kinds.ps
+b-holds-at t = and 3 b-holds-kinds.ps (is 3 b-holds-kinds.ps μ-b-holds t) b-holds.Pre
 
-abbrev b-holds-below : ℕ → In 2 b-holds-kinds.ps
-b-holds-below t = and 2 b-holds-kinds.ps (falls 2 b-holds-kinds.ps _<_ μ-b-holds t) b-holds.Pre
+abbrev b-holds-below : ℕ → In 3 b-holds-kinds.ps
+b-holds-below t = and 3 b-holds-kinds.ps (falls 3 b-holds-kinds.ps _<_ μ-b-holds t) b-holds.Pre
 
-abbrev both-at : ℕ → In 2 both-kinds.ps
-both-at t = and 2 both-kinds.ps (is 2 both-kinds.ps μ-both t) both.Pre
+abbrev both-at : ℕ → In 3 both-kinds.ps
+both-at t = and 3 both-kinds.ps (is 3 both-kinds.ps μ-both t) both.Pre
 
-abbrev both-below : ℕ → In 2 both-kinds.ps
-both-below t = and 2 both-kinds.ps (falls 2 both-kinds.ps _<_ μ-both t) both.Pre
+abbrev both-below : ℕ → In 3 both-kinds.ps
+both-below t = and 3 both-kinds.ps (falls 3 both-kinds.ps _<_ μ-both t) both.Pre
 
-abbrev child-holds-at : ℕ → In 2 child-holds-kinds.ps
+abbrev child-holds-at : ℕ → In 3 child-holds-kinds.ps
 child-holds-at t =
-    and 2 child-holds-kinds.ps (is 2 child-holds-kinds.ps μ-child-holds t) child-holds.Pre
+    and 3 child-holds-kinds.ps (is 3 child-holds-kinds.ps μ-child-holds t) child-holds.Pre
 
-abbrev child-holds-below : ℕ → In 2 child-holds-kinds.ps
+abbrev child-holds-below : ℕ → In 3 child-holds-kinds.ps
 child-holds-below t =
-    and 2 child-holds-kinds.ps (falls 2 child-holds-kinds.ps _<_ μ-child-holds t) child-holds.Pre
+    and 3 child-holds-kinds.ps (falls 3 child-holds-kinds.ps _<_ μ-child-holds t) child-holds.Pre
 
-abbrev digit-at : ℕ → In 2 digit-kinds.ps
-digit-at t = and 2 digit-kinds.ps (is 2 digit-kinds.ps μ-digit t) digit.Pre
+abbrev digit-at : ℕ → In 3 digit-kinds.ps
+digit-at t = and 3 digit-kinds.ps (is 3 digit-kinds.ps μ-digit t) digit.Pre
 
-abbrev digit-below : ℕ → In 2 digit-kinds.ps
-digit-below t = and 2 digit-kinds.ps (falls 2 digit-kinds.ps _<_ μ-digit t) digit.Pre
+abbrev digit-below : ℕ → In 3 digit-kinds.ps
+digit-below t = and 3 digit-kinds.ps (falls 3 digit-kinds.ps _<_ μ-digit t) digit.Pre
 
-abbrev fill-at : ℕ → In 2 fill-kinds.ps
-fill-at t = and 2 fill-kinds.ps (is 2 fill-kinds.ps μ-fill t) fill.Pre
+abbrev fill-at : ℕ → In 3 fill-kinds.ps
+fill-at t = and 3 fill-kinds.ps (is 3 fill-kinds.ps μ-fill t) fill.Pre
 
-abbrev fill-below : ℕ → In 2 fill-kinds.ps
-fill-below t = and 2 fill-kinds.ps (falls 2 fill-kinds.ps _<_ μ-fill t) fill.Pre
+abbrev fill-below : ℕ → In 3 fill-kinds.ps
+fill-below t = and 3 fill-kinds.ps (falls 3 fill-kinds.ps _<_ μ-fill t) fill.Pre
 
-abbrev join-at : ℕ → In 2 join-kinds.ps
-join-at t = and 2 join-kinds.ps (is 2 join-kinds.ps μ-join t) join.Pre
+abbrev join-at : ℕ → In 3 join-kinds.ps
+join-at t = and 3 join-kinds.ps (is 3 join-kinds.ps μ-join t) join.Pre
 
-abbrev join-below : ℕ → In 2 join-kinds.ps
-join-below t = and 2 join-kinds.ps (falls 2 join-kinds.ps _<_ μ-join t) join.Pre
+abbrev join-below : ℕ → In 3 join-kinds.ps
+join-below t = and 3 join-kinds.ps (falls 3 join-kinds.ps _<_ μ-join t) join.Pre
 
-abbrev serves-at : ℕ → In 2 serves-kinds.ps
-serves-at t = and 2 serves-kinds.ps (is 2 serves-kinds.ps μ-serves t) serves.Pre
+abbrev serves-at : ℕ → In 3 serves-kinds.ps
+serves-at t = and 3 serves-kinds.ps (is 3 serves-kinds.ps μ-serves t) serves.Pre
 
-abbrev serves-below : ℕ → In 2 serves-kinds.ps
-serves-below t = and 2 serves-kinds.ps (falls 2 serves-kinds.ps _<_ μ-serves t) serves.Pre
+abbrev serves-below : ℕ → In 3 serves-kinds.ps
+serves-below t = and 3 serves-kinds.ps (falls 3 serves-kinds.ps _<_ μ-serves t) serves.Pre
 
-abbrev split-at : ℕ → In 2 split-kinds.ps
-split-at t = and 2 split-kinds.ps (is 2 split-kinds.ps μ-split t) split.Pre
+abbrev split-at : ℕ → In 3 split-kinds.ps
+split-at t = and 3 split-kinds.ps (is 3 split-kinds.ps μ-split t) split.Pre
 
-abbrev split-below : ℕ → In 2 split-kinds.ps
-split-below t = and 2 split-kinds.ps (falls 2 split-kinds.ps _<_ μ-split t) split.Pre
+abbrev split-below : ℕ → In 3 split-kinds.ps
+split-below t = and 3 split-kinds.ps (falls 3 split-kinds.ps _<_ μ-split t) split.Pre
 
 abbrev a-holds-uses : ℕ → a-holds-lts.Claims
 a-holds-uses t = (wide-reads.Asked, wide-reads.Learnt, child-holds-below t, child-holds.Post)
@@ -178,7 +183,7 @@ abbrev serves-uses : ℕ → serves-lts.Claims
 serves-uses t = (spread-reads.Asked, spread-reads.Learnt, parts-apart-reads.Asked, parts-apart-reads.Learnt, both-below t, both.Post)
 
 abbrev split-uses : ℕ → split-lts.Claims
-split-uses t = (taken-reads.Asked, taken-reads.Learnt, table-reads.Asked, table-reads.Learnt, serves-below t, serves.Post)
+split-uses t = (taken-reads.Asked, taken-reads.Learnt, table-reads.Asked, table-reads.Learnt, begin-reads.Asked, begin-reads.Learnt, part-at-reads.Asked, part-at-reads.Learnt, serves-below t, serves.Post)
 
 a-holds-mul-wide : (t : ℕ) → a-holds-lts.Need-mul-wide (a-holds-uses t) (a-holds-at t) a-holds.Post
 a-holds-mul-wide t c = omega (arith, (c .pre .1 .0) .ready .inside)
@@ -193,7 +198,7 @@ a-holds-wide-requires : (t : ℕ) → a-holds-lts.Need-wide-requires (a-holds-us
 a-holds-wide-requires t c κs = search needs
 
 a-holds-child-holds-requires : (t : ℕ) → a-holds-lts.Need-child-holds-requires (a-holds-uses t) (a-holds-at t) a-holds.Post
-a-holds-child-holds-requires t c κs = let l : c .wide .result < c .before .before .args .k = omega (arith, lower-a _ _ _ (c .before .before .pre .1 .0)) in (omega arith, (ready-below _ _ _ (c .before .before .pre .1 .0) _ l, (c .before .before .pre .1 .1)))
+a-holds-child-holds-requires t c κs = let l : c .wide .result < c .before .before .args .k = omega (arith, lower-a _ _ _ (c .before .before .pre .1 .0)) in (omega arith, (ready-below _ _ _ (c .before .before .pre .1 .0) _ l, (c .before .before .pre .1 .1), c .before .before .pre .1 .2))
 
 a-holds-returns : (t : ℕ) → a-holds-lts.Need-returns (a-holds-uses t) (a-holds-at t) a-holds.Post
 a-holds-returns t c = c .child-holds .ensures ∙ ap (λ x. truthAt (c .before .before .before .args .f .now) (c .before .before .before .args .b .now) x (cells (c .before .before .before .args .w))) (c .before .wide .ensures .0)
@@ -211,13 +216,13 @@ added-source-below-requires : (t : ℕ) → added-lts.Need-source-below-requires
 added-source-below-requires t c κs = ((c .before .before .before .pre .1 .0) .ready .fewLocs)
 
 added-both-requires : (t : ℕ) → added-lts.Need-both-requires (added-uses t) (added-at t) added.Post
-added-both-requires t c κs = (omega arith, ((c .before .before .before .before .before .pre .1 .0), (fill-first _ _ _ _ ((c .before .before .before .before .before .pre .1 .0) .ready .barred) _ (c .before .before .before .before .before .pre .1 .1) _ (c .before .before .before .met .ensures)) .heap, (c .before .before .before .before .before .pre .1 .1)))
+added-both-requires t c κs = (omega arith, ((c .before .before .before .before .before .pre .1 .0), (fill-first _ _ _ _ ((c .before .before .before .before .before .pre .1 .0) .ready .barred) _ (c .before .before .before .before .before .pre .1 .1) _ (c .before .before .before .met .ensures)) .heap, (c .before .before .before .before .before .pre .1 .1), c .before .before .before .before .before .pre .1 .2))
 
 added-returns : (t : ℕ) → added-lts.Need-returns (added-uses t) (added-at t) added.Post
 added-returns t c = fill-skip _ _ _ _ ((c .before .before .before .before .before .before .pre .1 .0) .ready .barred) _ (c .before .before .before .before .before .before .pre .1 .1) _ _ _ (fill-first _ _ _ _ ((c .before .before .before .before .before .before .pre .1 .0) .ready .barred) _ (c .before .before .before .before .before .before .pre .1 .1) _ (c .before .before .before .before .met .ensures)) _ _ 0 _ (subst (SourceBelow _ _ _) (c .before .if1 .taken) (c .before .before .source-below .ensures)) (fill-last _ _ _ _ ((c .before .before .before .before .before .before .pre .1 .0) .ready .barred) _ (c .before .before .before .before .before .before .pre .1 .1) _ _ (fill-less _ _ _ _ ((c .before .before .before .before .before .before .pre .1 .0) .ready .barred) _ (c .before .before .before .before .before .before .pre .1 .1) _ _ _ (fill-first _ _ _ _ ((c .before .before .before .before .before .before .pre .1 .0) .ready .barred) _ (c .before .before .before .before .before .before .pre .1 .1) _ (c .before .before .before .before .met .ensures)) _ zero-le) _ _ _ (c .both .ensures))
 
 added-fill-requires : (t : ℕ) → added-lts.Need-fill-requires (added-uses t) (added-at t) added.Post
-added-fill-requires t c κs = let sb = c .before .source-below .ensures in (omega (arith, sb .low, ((c .before .before .before .before .before .pre .1 .0) .ready .fewLocs)), ((c .before .before .before .before .before .pre .1 .0), (c .before .before .before .before .before .pre .1 .1), (fill-less _ _ _ _ ((c .before .before .before .before .before .pre .1 .0) .ready .barred) _ (c .before .before .before .before .before .pre .1 .1) _ _ _ (fill-first _ _ _ _ ((c .before .before .before .before .before .pre .1 .0) .ready .barred) _ (c .before .before .before .before .before .pre .1 .1) _ (c .before .before .before .met .ensures)) _ (sb .low)), omega arith, sb .source (c .if1 .left)))
+added-fill-requires t c κs = let sb = c .before .source-below .ensures in (omega (arith, sb .low, ((c .before .before .before .before .before .pre .1 .0) .ready .fewLocs)), ((c .before .before .before .before .before .pre .1 .0), (c .before .before .before .before .before .pre .1 .1), (fill-less _ _ _ _ ((c .before .before .before .before .before .pre .1 .0) .ready .barred) _ (c .before .before .before .before .before .pre .1 .1) _ _ _ (fill-first _ _ _ _ ((c .before .before .before .before .before .pre .1 .0) .ready .barred) _ (c .before .before .before .before .before .pre .1 .1) _ (c .before .before .before .met .ensures)) _ (sb .low)), omega arith, sb .source (c .if1 .left), c .before .before .before .before .before .pre .1 .2))
 
 added-returns-2 : (t : ℕ) → added-lts.Need-returns-2 (added-uses t) (added-at t) added.Post
 added-returns-2 t c = fill-skip _ _ _ _ ((c .before .before .before .before .before .before .pre .1 .0) .ready .barred) _ (c .before .before .before .before .before .before .pre .1 .1) _ _ _ (fill-first _ _ _ _ ((c .before .before .before .before .before .before .pre .1 .0) .ready .barred) _ (c .before .before .before .before .before .before .pre .1 .1) _ (c .before .before .before .before .met .ensures)) _ _ _ _ (c .before .before .source-below .ensures) (c .fill .ensures)
@@ -235,16 +240,16 @@ b-holds-wide-requires : (t : ℕ) → b-holds-lts.Need-wide-requires (b-holds-us
 b-holds-wide-requires t c κs = search needs
 
 b-holds-child-holds-requires : (t : ℕ) → b-holds-lts.Need-child-holds-requires (b-holds-uses t) (b-holds-at t) b-holds.Post
-b-holds-child-holds-requires t c κs = let l : c .wide .result < c .before .before .args .k = omega (arith, lower-b _ _ _ (c .before .before .pre .1 .0)) in (omega arith, (ready-below _ _ _ (c .before .before .pre .1 .0) _ l, (c .before .before .pre .1 .1)))
+b-holds-child-holds-requires t c κs = let l : c .wide .result < c .before .before .args .k = omega (arith, lower-b _ _ _ (c .before .before .pre .1 .0)) in (omega arith, (ready-below _ _ _ (c .before .before .pre .1 .0) _ l, (c .before .before .pre .1 .1), c .before .before .pre .1 .2))
 
 b-holds-returns : (t : ℕ) → b-holds-lts.Need-returns (b-holds-uses t) (b-holds-at t) b-holds.Post
 b-holds-returns t c = c .child-holds .ensures ∙ ap (λ x. truthAt (c .before .before .before .args .f .now) (c .before .before .before .args .b .now) x (cells (c .before .before .before .args .w))) (c .before .wide .ensures .0)
 
 both-a-holds-requires : (t : ℕ) → both-lts.Need-a-holds-requires (both-uses t) (both-at t) both.Post
-both-a-holds-requires t c κs = (omega arith, ((c .pre .1 .0), c .pre .1 .1))
+both-a-holds-requires t c κs = (omega arith, ((c .pre .1 .0), c .pre .1 .1, c .pre .1 .3))
 
 both-b-holds-requires : (t : ℕ) → both-lts.Need-b-holds-requires (both-uses t) (both-at t) both.Post
-both-b-holds-requires t c κs = (omega arith, ((c .before .before .pre .1 .0), c .before .before .pre .1 .2))
+both-b-holds-requires t c κs = (omega arith, ((c .before .before .pre .1 .0), c .before .before .pre .1 .2, c .before .before .pre .1 .3))
 
 both-returns : (t : ℕ) → both-lts.Need-returns (both-uses t) (both-at t) both.Post
 both-returns t c = and-second _ _ _ (sym (c .before .before .a-holds .ensures) ∙ c .before .if1 .taken) (c .b-holds .ensures)
@@ -259,7 +264,7 @@ child-holds-element-copy-out-op : (t : ℕ) → child-holds-lts.Need-element-cop
 child-holds-element-copy-out-op t c = omega (arith, (c .pre .1 .0) .inside)
 
 child-holds-a-holds-requires : (t : ℕ) → child-holds-lts.Need-a-holds-requires (child-holds-uses t) (child-holds-at t) child-holds.Post
-child-holds-a-holds-requires t c κs = (omega arith, (record { ready = c .before .before .pre .1 .0; operator = omega (arith, c .if1 .taken) }, c .before .before .pre .1 .1))
+child-holds-a-holds-requires t c κs = (omega arith, (record { ready = c .before .before .pre .1 .0; operator = omega (arith, c .if1 .taken) }, c .before .before .pre .1 .1, c .before .before .pre .1 .2))
 
 child-holds-returns : (t : ℕ) → child-holds-lts.Need-returns (child-holds-uses t) (child-holds-at t) child-holds.Post
 child-holds-returns t c =
@@ -270,7 +275,7 @@ child-holds-atom-requires : (t : ℕ) → child-holds-lts.Need-atom-requires (ch
 child-holds-atom-requires t c κs = (omega (arith, c .if3 .taken), c .before .before .before .before .pre .1 .0, c .before .before .before .before .pre .1 .1)
 
 child-holds-join-requires : (t : ℕ) → child-holds-lts.Need-join-requires (child-holds-uses t) (child-holds-at t) child-holds.Post
-child-holds-join-requires t c κs = (omega arith, (record { ready = c .before .before .before .before .before .pre .1 .0; operator = c .before .if3 .left }, c .before .before .before .before .before .pre .1 .1))
+child-holds-join-requires t c κs = (omega arith, (record { ready = c .before .before .before .before .before .pre .1 .0; operator = c .before .if3 .left }, c .before .before .before .before .before .pre .1 .1, c .before .before .before .before .before .pre .1 .2))
 
 child-holds-returns-2 : (t : ℕ) → child-holds-lts.Need-returns-2 (child-holds-uses t) (child-holds-at t) child-holds.Post
 child-holds-returns-2 t c = c .atom .ensures
@@ -294,22 +299,22 @@ digit-placed-requires : (t : ℕ) → digit-lts.Need-placed-requires (digit-uses
 digit-placed-requires t c κs = (omega (arith, ((c .before .before .pre .1 .0) .ready .fewLocs)), c .before .before .pre .1 .3, omega (arith, (c .before .before .pre .1 .2) .upTo, ((c .before .before .pre .1 .0) .ready .fewLocs)))
 
 digit-both-requires : (t : ℕ) → digit-lts.Need-both-requires (digit-uses t) (digit-at t) digit.Post
-digit-both-requires t c κs = let q = (put-filled _ _ _ _ ((c .before .before .before .before .pre .1 .0) .ready .barred) _ (c .before .before .before .before .pre .1 .1) _ _ _ (c .before .before .before .before .pre .1 .2) _ _ (c .before .before .before .before .pre .1 .3) (c .before .before .before .before .pre .1 .7) (c .before .placed .ensures) (c .before .before .before .before .pre .1 .4) (c .before .before .before .is-target .ensures .to (not-false _ (c .before .before .if1 .left)))) in (omega arith, ((c .before .before .before .before .pre .1 .0), q .heap, whole-heap _ _ _ _ ((c .before .before .before .before .pre .1 .0) .ready .barred) _ (c .before .before .before .before .pre .1 .1) _ _ _ q))
+digit-both-requires t c κs = let q = (put-filled _ _ _ _ ((c .before .before .before .before .pre .1 .0) .ready .barred) _ (c .before .before .before .before .pre .1 .1) _ _ _ (c .before .before .before .before .pre .1 .2) _ _ (c .before .before .before .before .pre .1 .3) (c .before .before .before .before .pre .1 .7) (c .before .placed .ensures) (c .before .before .before .before .pre .1 .4) (c .before .before .before .is-target .ensures .to (not-false _ (c .before .before .if1 .left)))) in (omega arith, ((c .before .before .before .before .pre .1 .0), q .heap, whole-heap _ _ _ _ ((c .before .before .before .before .pre .1 .0) .ready .barred) _ (c .before .before .before .before .pre .1 .1) _ _ _ q, c .before .before .before .before .pre .1 .8))
 
 digit-returns-2 : (t : ℕ) → digit-lts.Need-returns-2 (digit-uses t) (digit-at t) digit.Post
 digit-returns-2 t c = put-found _ _ _ _ ((c .before .before .before .before .before .pre .1 .0) .ready .barred) _ (c .before .before .before .before .before .pre .1 .1) _ _ _ (c .before .before .before .before .before .pre .1 .2) _ _ _ _ (c .before .before .before .before .before .pre .1 .3) (c .before .before .before .before .before .pre .1 .7) (c .before .before .placed .ensures) _ (fill-skip _ _ _ _ ((c .before .before .before .before .before .pre .1 .0) .ready .barred) _ (c .before .before .before .before .before .pre .1 .1) _ _ _ (put-filled _ _ _ _ ((c .before .before .before .before .before .pre .1 .0) .ready .barred) _ (c .before .before .before .before .before .pre .1 .1) _ _ _ (c .before .before .before .before .before .pre .1 .2) _ _ (c .before .before .before .before .before .pre .1 .3) (c .before .before .before .before .before .pre .1 .7) (c .before .before .placed .ensures) (c .before .before .before .before .before .pre .1 .4) (c .before .before .before .before .is-target .ensures .to (not-false _ (c .before .before .before .if1 .left)))) _ _ 0 _ (subst (SourceBelow _ _ _) (c .before .if2 .taken) (c .before .before .before .before .before .pre .1 .6)) (fill-last _ _ _ _ ((c .before .before .before .before .before .pre .1 .0) .ready .barred) _ (c .before .before .before .before .before .pre .1 .1) _ _ (fill-less _ _ _ _ ((c .before .before .before .before .before .pre .1 .0) .ready .barred) _ (c .before .before .before .before .before .pre .1 .1) _ _ _ (put-filled _ _ _ _ ((c .before .before .before .before .before .pre .1 .0) .ready .barred) _ (c .before .before .before .before .before .pre .1 .1) _ _ _ (c .before .before .before .before .before .pre .1 .2) _ _ (c .before .before .before .before .before .pre .1 .3) (c .before .before .before .before .before .pre .1 .7) (c .before .before .placed .ensures) (c .before .before .before .before .before .pre .1 .4) (c .before .before .before .before .is-target .ensures .to (not-false _ (c .before .before .before .if1 .left)))) _ zero-le) _ _ _ (c .both .ensures)))
 
 digit-fill-requires : (t : ℕ) → digit-lts.Need-fill-requires (digit-uses t) (digit-at t) digit.Post
-digit-fill-requires t c κs = let sb = c .before .before .before .before .pre .1 .6 in (omega (arith, c .before .before .before .before .pre .1 .5), ((c .before .before .before .before .pre .1 .0), (c .before .before .before .before .pre .1 .1), (fill-less _ _ _ _ ((c .before .before .before .before .pre .1 .0) .ready .barred) _ (c .before .before .before .before .pre .1 .1) _ _ _ (put-filled _ _ _ _ ((c .before .before .before .before .pre .1 .0) .ready .barred) _ (c .before .before .before .before .pre .1 .1) _ _ _ (c .before .before .before .before .pre .1 .2) _ _ (c .before .before .before .before .pre .1 .3) (c .before .before .before .before .pre .1 .7) (c .before .placed .ensures) (c .before .before .before .before .pre .1 .4) (c .before .before .before .is-target .ensures .to (not-false _ (c .before .before .if1 .left)))) _ (sb .low)), omega arith, sb .source (c .if2 .left)))
+digit-fill-requires t c κs = let sb = c .before .before .before .before .pre .1 .6 in (omega (arith, c .before .before .before .before .pre .1 .5), ((c .before .before .before .before .pre .1 .0), (c .before .before .before .before .pre .1 .1), (fill-less _ _ _ _ ((c .before .before .before .before .pre .1 .0) .ready .barred) _ (c .before .before .before .before .pre .1 .1) _ _ _ (put-filled _ _ _ _ ((c .before .before .before .before .pre .1 .0) .ready .barred) _ (c .before .before .before .before .pre .1 .1) _ _ _ (c .before .before .before .before .pre .1 .2) _ _ (c .before .before .before .before .pre .1 .3) (c .before .before .before .before .pre .1 .7) (c .before .placed .ensures) (c .before .before .before .before .pre .1 .4) (c .before .before .before .is-target .ensures .to (not-false _ (c .before .before .if1 .left)))) _ (sb .low)), omega arith, sb .source (c .if2 .left), c .before .before .before .before .pre .1 .8))
 
 digit-returns-3 : (t : ℕ) → digit-lts.Need-returns-3 (digit-uses t) (digit-at t) digit.Post
 digit-returns-3 t c = put-found _ _ _ _ ((c .before .before .before .before .before .pre .1 .0) .ready .barred) _ (c .before .before .before .before .before .pre .1 .1) _ _ _ (c .before .before .before .before .before .pre .1 .2) _ _ _ _ (c .before .before .before .before .before .pre .1 .3) (c .before .before .before .before .before .pre .1 .7) (c .before .before .placed .ensures) _ (fill-skip _ _ _ _ ((c .before .before .before .before .before .pre .1 .0) .ready .barred) _ (c .before .before .before .before .before .pre .1 .1) _ _ _ (put-filled _ _ _ _ ((c .before .before .before .before .before .pre .1 .0) .ready .barred) _ (c .before .before .before .before .before .pre .1 .1) _ _ _ (c .before .before .before .before .before .pre .1 .2) _ _ (c .before .before .before .before .before .pre .1 .3) (c .before .before .before .before .before .pre .1 .7) (c .before .before .placed .ensures) (c .before .before .before .before .before .pre .1 .4) (c .before .before .before .before .is-target .ensures .to (not-false _ (c .before .before .before .if1 .left)))) _ _ _ _ (c .before .before .before .before .before .pre .1 .6) (c .fill .ensures))
 
 abbrev fill-Inv-loop : fill-lts.InvT-loop
-fill-Inv-loop f k b w u l g next top d₀ d = (d ≤ top + 1) × (top ≡ locsOf b + 1) × Tried (profileOf b) (varsOf b) (locsOf b) (stackOf b) (firstAt f b k) (secondAt f b k) (cells w) l (cells g) d
+fill-Inv-loop f k b w u l g pairs next top d₀ d = (d ≤ top + 1) × (top ≡ locsOf b + 1) × Tried (profileOf b) (varsOf b) (locsOf b) (stackOf b) (firstAt f b k) (secondAt f b k) (cells w) l (cells g) d
 
 abbrev fill-μ-loop : fill-lts.MeasureT-loop
-fill-μ-loop f k b w u l g next top d₀ d = top + 1 - d
+fill-μ-loop f k b w u l g pairs next top d₀ d = top + 1 - d
 
 fill-sub-source-below : (t : ℕ) → fill-lts.Need-sub-source-below (fill-uses t) (fill-at t) fill.Post fill-Inv-loop fill-μ-loop
 fill-sub-source-below t c = search needs
@@ -327,7 +332,7 @@ fill-loop-holds : (t : ℕ) → fill-lts.Need-loop-holds (fill-uses t) (fill-at 
 fill-loop-holds t c = (zero-le, refl, tried-none _ _ _ _ ((c .before .before .pre .1 .0) .ready .barred) _ (c .before .before .pre .1 .1) _ _ _ _)
 
 fill-digit-requires : (t : ℕ) → fill-lts.Need-digit-requires (fill-uses t) (fill-at t) fill.Post fill-Inv-loop fill-μ-loop
-fill-digit-requires t c κs = let sb = c .before .before .before .source-below .ensures in (omega arith, ((c .before .before .before .before .pre .1 .0), (c .before .before .before .before .pre .1 .1), c .before .before .before .before .pre .1 .2, c .before .before .before .before .pre .1 .3, c .before .before .before .before .pre .1 .4, omega (arith, sb .low), sb, omega arith))
+fill-digit-requires t c κs = let sb = c .before .before .before .source-below .ensures in (omega arith, ((c .before .before .before .before .pre .1 .0), (c .before .before .before .before .pre .1 .1), c .before .before .before .before .pre .1 .2, c .before .before .before .before .pre .1 .3, c .before .before .before .before .pre .1 .4, omega (arith, sb .low), sb, omega arith, c .before .before .before .before .pre .1 .5))
 
 fill-returns : (t : ℕ) → fill-lts.Need-returns (fill-uses t) (fill-at t) fill.Post fill-Inv-loop fill-μ-loop
 fill-returns t c = tried-found _ _ _ _ ((c .before .before .before .before .before .before .pre .1 .0) .ready .barred) _ (c .before .before .before .before .before .before .pre .1 .1) _ _ _ _ _ _ (c .before .digit .ensures) (c .if1 .taken)
@@ -351,28 +356,28 @@ join-element-copy-out-op : (t : ℕ) → join-lts.Need-element-copy-out-op (join
 join-element-copy-out-op t c = omega (arith, (c .pre .1 .0) .ready .inside)
 
 join-both-requires : (t : ℕ) → join-lts.Need-both-requires (join-uses t) (join-at t) join.Post
-join-both-requires t c κs = (omega arith, ((c .before .before .pre .1 .0), (c .before .before .pre .1 .1), (c .before .before .pre .1 .1)))
+join-both-requires t c κs = (omega arith, ((c .before .before .pre .1 .0), (c .before .before .pre .1 .1), (c .before .before .pre .1 .1), c .before .before .pre .1 .2))
 
 join-a-holds-requires : (t : ℕ) → join-lts.Need-a-holds-requires (join-uses t) (join-at t) join.Post
-join-a-holds-requires t c κs = (omega arith, ((c .before .before .pre .1 .0), (c .before .before .pre .1 .1)))
+join-a-holds-requires t c κs = (omega arith, ((c .before .before .pre .1 .0), (c .before .before .pre .1 .1), c .before .before .pre .1 .2))
 
 join-b-holds-requires : (t : ℕ) → join-lts.Need-b-holds-requires (join-uses t) (join-at t) join.Post
-join-b-holds-requires t c κs = (omega arith, ((c .before .before .before .before .pre .1 .0), (c .before .before .before .before .pre .1 .1)))
+join-b-holds-requires t c κs = (omega arith, ((c .before .before .before .before .pre .1 .0), (c .before .before .before .before .pre .1 .1), c .before .before .before .before .pre .1 .2))
 
 join-a-holds-requires-2 : (t : ℕ) → join-lts.Need-a-holds-requires-2 (join-uses t) (join-at t) join.Post
-join-a-holds-requires-2 t c κs = (omega arith, ((c .before .before .pre .1 .0), (c .before .before .pre .1 .1)))
+join-a-holds-requires-2 t c κs = (omega arith, ((c .before .before .pre .1 .0), (c .before .before .pre .1 .1), c .before .before .pre .1 .2))
 
 join-b-holds-requires-2 : (t : ℕ) → join-lts.Need-b-holds-requires-2 (join-uses t) (join-at t) join.Post
-join-b-holds-requires-2 t c κs = (omega arith, ((c .before .before .before .before .pre .1 .0), (c .before .before .before .before .pre .1 .1)))
+join-b-holds-requires-2 t c κs = (omega arith, ((c .before .before .before .before .pre .1 .0), (c .before .before .before .before .pre .1 .1), c .before .before .before .before .pre .1 .2))
 
 join-a-holds-requires-3 : (t : ℕ) → join-lts.Need-a-holds-requires-3 (join-uses t) (join-at t) join.Post
-join-a-holds-requires-3 t c κs = (omega arith, ((c .before .before .pre .1 .0), (c .before .before .pre .1 .1)))
+join-a-holds-requires-3 t c κs = (omega arith, ((c .before .before .pre .1 .0), (c .before .before .pre .1 .1), c .before .before .pre .1 .2))
 
 join-split-requires : (t : ℕ) → join-lts.Need-split-requires (join-uses t) (join-at t) join.Post
-join-split-requires t c κs = (omega arith, ((c .before .before .pre .1 .0), (c .before .before .pre .1 .1)))
+join-split-requires t c κs = (omega arith, ((c .before .before .pre .1 .0), (c .before .before .pre .1 .1), c .before .before .pre .1 .2))
 
 join-added-requires : (t : ℕ) → join-lts.Need-added-requires (join-uses t) (join-at t) join.Post
-join-added-requires t c κs = (omega arith, ((c .before .before .pre .1 .0), (c .before .before .pre .1 .1)))
+join-added-requires t c κs = (omega arith, ((c .before .before .pre .1 .0), (c .before .before .pre .1 .1), c .before .before .pre .1 .2))
 
 join-returns : (t : ℕ) → join-lts.Need-returns (join-uses t) (join-at t) join.Post
 join-returns t c = c .both .ensures ∙ sym (truth-5 _ _ _ (c .before .before .before .pre .1 .0) _ (c .before .match .keys1))
@@ -408,16 +413,16 @@ serves-returns : (t : ℕ) → serves-lts.Need-returns (serves-uses t) (serves-a
 serves-returns t c = serves-not-apart _ _ _ _ ((c .before .before .before .pre .1 .0) .ready .barred) _ _ _ _ (c .before .before .before .pre .1 .1) (c .before .before .before .pre .1 .2) (c .before .before .spread .ensures) _ _ _ (c .before .before .before .pre .1 .4) (c .before .parts-apart .ensures) (not-true _ (c .if1 .taken))
 
 serves-both-requires : (t : ℕ) → serves-lts.Need-both-requires (serves-uses t) (serves-at t) serves.Post
-serves-both-requires t c κs = (omega arith, ((c .before .before .before .pre .1 .0), part-is-heap _ _ _ _ ((c .before .before .before .pre .1 .0) .ready .barred) _ _ _ _ (c .before .before .before .pre .1 .1) (c .before .before .before .pre .1 .2) (c .before .before .spread .ensures), rest-is-heap _ _ _ _ ((c .before .before .before .pre .1 .0) .ready .barred) _ _ _ _ (c .before .before .before .pre .1 .1) (c .before .before .before .pre .1 .2) (c .before .before .spread .ensures)))
+serves-both-requires t c κs = (omega arith, ((c .before .before .before .pre .1 .0), part-is-heap _ _ _ _ ((c .before .before .before .pre .1 .0) .ready .barred) _ _ _ _ (c .before .before .before .pre .1 .1) (c .before .before .before .pre .1 .2) (c .before .before .spread .ensures), rest-is-heap _ _ _ _ ((c .before .before .before .pre .1 .0) .ready .barred) _ _ _ _ (c .before .before .before .pre .1 .1) (c .before .before .before .pre .1 .2) (c .before .before .spread .ensures), c .before .before .before .pre .1 .5))
 
 serves-returns-2 : (t : ℕ) → serves-lts.Need-returns-2 (serves-uses t) (serves-at t) serves.Post
 serves-returns-2 t c = serves-both _ _ _ _ ((c .before .before .before .before .pre .1 .0) .ready .barred) _ _ _ _ (c .before .before .before .before .pre .1 .1) (c .before .before .before .before .pre .1 .2) (c .before .before .before .spread .ensures) _ _ _ (c .before .before .before .before .pre .1 .4) (c .before .before .parts-apart .ensures) _ (not-false _ (c .before .if1 .left)) (c .both .ensures)
 
 abbrev split-Inv-loop : split-lts.InvT-loop
-split-Inv-loop f k b w a t m₀ m = Trying (servesAt f b k w) a m
+split-Inv-loop f k b w pairs a t i₀ i = Walking pairs (servesAt f b k w) a i
 
 abbrev split-μ-loop : split-lts.MeasureT-loop
-split-μ-loop f k b w a t m₀ m = a - m
+split-μ-loop f k b w pairs a t i₀ i = size - i
 
 split-taken-requires : (t : ℕ) → split-lts.Need-taken-requires (split-uses t) (split-at t) split.Post split-Inv-loop split-μ-loop
 split-taken-requires t c κs = heap-more _ _ _ ((c .pre .1 .0) .ready .fewLocs) (c .pre .1 .1)
@@ -428,29 +433,32 @@ split-element-copy-out-table t c = search needs
 split-table-requires : (t : ℕ) → split-lts.Need-table-requires (split-uses t) (split-at t) split.Post split-Inv-loop split-μ-loop
 split-table-requires t c κs = (((c .before .before .pre .1 .0) .ready .barred) .small, heap-more _ _ _ ((c .before .before .pre .1 .0) .ready .fewLocs) (c .before .before .pre .1 .1))
 
+split-begin-requires : (t : ℕ) → split-lts.Need-begin-requires (split-uses t) (split-at t) split.Post split-Inv-loop split-μ-loop
+split-begin-requires t c κs = (c .before .before .before .pre .1 .2, taken-listed _ _ _ ((c .before .before .before .pre .1 .0) .ready .fewLocs) (c .before .before .before .pre .1 .1) (c .before .before .taken .ensures) ((c .before .before .before .pre .1 .0) .ready .listed))
+
 split-loop-holds : (t : ℕ) → split-lts.Need-loop-holds (split-uses t) (split-at t) split.Post split-Inv-loop split-μ-loop
-split-loop-holds t c = trying-first _ _
+split-loop-holds t c = walk-first _ _ _ _ (c .begin .ensures .0) (c .begin .ensures .1)
+
+split-part-at-requires : (t : ℕ) → split-lts.Need-part-at-requires (split-uses t) (split-at t) split.Post split-Inv-loop split-μ-loop
+split-part-at-requires t c κs = (c .before .before .before .before .before .pre .1 .2, c .loop .inv .inside .low, c .loop .inv .inside .high)
 
 split-serves-requires : (t : ℕ) → split-lts.Need-serves-requires (split-uses t) (split-at t) split.Post split-Inv-loop split-μ-loop
-split-serves-requires t c κs = (omega arith, ((c .before .before .before .before .pre .1 .0), (c .before .before .before .before .pre .1 .1), c .before .table .ensures, omega (arith, sub-le _ _ (c .loop .inv .sub), c .before .before .before .taken .ensures .small), sub-within _ _ _ ((c .before .before .before .before .pre .1 .0) .ready .fewLocs) (c .before .before .before .before .pre .1 .1) (c .before .before .before .taken .ensures) _ (c .loop .inv .sub)))
+split-serves-requires t c κs = let q = (walk-trying _ _ _ _ _ (c .part-at .ensures) (c .before .loop .inv)) in (omega arith, ((c .before .before .before .before .before .before .pre .1 .0), (c .before .before .before .before .before .before .pre .1 .1), c .before .before .before .table .ensures, omega (arith, sub-le _ _ (q .sub), c .before .before .before .before .before .taken .ensures .small), sub-within _ _ _ ((c .before .before .before .before .before .before .pre .1 .0) .ready .fewLocs) (c .before .before .before .before .before .before .pre .1 .1) (c .before .before .before .before .before .taken .ensures) _ (q .sub), c .before .before .before .before .before .before .pre .1 .2))
 
-split-sub-m : (t : ℕ) → split-lts.Need-sub-m (split-uses t) (split-at t) split.Post split-Inv-loop split-μ-loop
-split-sub-m t c = omega (arith, c .before .before .before .before .before .before .taken .ensures .small)
-
-split-add-m : (t : ℕ) → split-lts.Need-add-m (split-uses t) (split-at t) split.Post split-Inv-loop split-μ-loop
-split-add-m t c = omega (arith, sub-le _ _ (c .before .before .before .loop .inv .sub), c .before .before .before .before .before .before .taken .ensures .small)
+split-add-i : (t : ℕ) → split-lts.Need-add-i (split-uses t) (split-at t) split.Post split-Inv-loop split-μ-loop
+split-add-i t c = omega (arith, c .before .before .before .before .loop .inv .inside .high)
 
 split-loop-less : (t : ℕ) → split-lts.Need-loop-less (split-uses t) (split-at t) split.Post split-Inv-loop split-μ-loop
-split-loop-less t c = let q = trying-next _ _ _ ((c .before .before .before .before .before .before .before .pre .1 .0) .ready .fewLocs) (c .before .before .before .before .before .before .before .pre .1 .1) (c .before .before .before .before .before .before .taken .ensures) _ (λ i e. sep-out _ _ _ _ _ _ _ _ e) _ (c .before .before .before .loop .inv) (c .if2 .left) (sym (c .before .before .serves .ensures) ∙ c .before .if1 .left) in omega (arith, q .0, sub-le _ _ (q .1 .sub))
+split-loop-less t c = omega (arith, c .before .before .before .before .loop .inv .inside .high)
 
 split-loop-again : (t : ℕ) → split-lts.Need-loop-again (split-uses t) (split-at t) split.Post split-Inv-loop split-μ-loop
-split-loop-again t c = trying-next _ _ _ ((c .before .before .before .before .before .before .before .pre .1 .0) .ready .fewLocs) (c .before .before .before .before .before .before .before .pre .1 .1) (c .before .before .before .before .before .before .taken .ensures) _ (λ i e. sep-out _ _ _ _ _ _ _ _ e) _ (c .before .before .before .loop .inv) (c .if2 .left) (sym (c .before .before .serves .ensures) ∙ c .before .if1 .left) .1
+split-loop-again t c = walk-next _ _ _ ((c .before .before .before .before .before .before .before .before .before .pre .1 .0) .ready .fewLocs) (c .before .before .before .before .before .before .before .before .before .pre .1 .1) (c .before .before .before .before .before .before .before .before .taken .ensures) _ (λ i e. sep-out _ _ _ _ _ _ _ _ e) _ (c .before .before .before .before .before .before .before .before .before .pre .1 .2) _ _ (c .before .before .before .part-at .ensures) (c .before .before .before .before .loop .inv) (c .if2 .left) (sym (c .before .before .serves .ensures) ∙ c .before .if1 .left)
 
 split-returns : (t : ℕ) → split-lts.Need-returns (split-uses t) (split-at t) split.Post split-Inv-loop split-μ-loop
-split-returns t c = trying-found _ _ _ ((c .before .before .before .before .before .before .pre .1 .0) .ready .fewLocs) (c .before .before .before .before .before .before .pre .1 .1) (c .before .before .before .before .before .taken .ensures) _ (λ i e. sep-out _ _ _ _ _ _ _ _ e) _ (c .before .before .loop .inv) (sym (c .before .serves .ensures) ∙ c .if1 .taken)
+split-returns t c = trying-found _ _ _ ((c .before .before .before .before .before .before .before .before .pre .1 .0) .ready .fewLocs) (c .before .before .before .before .before .before .before .before .pre .1 .1) (c .before .before .before .before .before .before .before .taken .ensures) _ (λ i e. sep-out _ _ _ _ _ _ _ _ e) _ (walk-trying _ _ _ _ _ (c .before .before .part-at .ensures) (c .before .before .before .loop .inv)) (sym (c .before .serves .ensures) ∙ c .if1 .taken)
 
 split-returns-2 : (t : ℕ) → split-lts.Need-returns-2 (split-uses t) (split-at t) split.Post split-Inv-loop split-μ-loop
-split-returns-2 t c = trying-none _ _ _ ((c .before .before .before .before .before .before .before .pre .1 .0) .ready .fewLocs) (c .before .before .before .before .before .before .before .pre .1 .1) (c .before .before .before .before .before .before .taken .ensures) _ (λ i e. sep-out _ _ _ _ _ _ _ _ e) _ (c .before .before .before .loop .inv) (c .if2 .taken) (sym (c .before .before .serves .ensures) ∙ c .before .if1 .left)
+split-returns-2 t c = trying-none _ _ _ ((c .before .before .before .before .before .before .before .before .before .pre .1 .0) .ready .fewLocs) (c .before .before .before .before .before .before .before .before .before .pre .1 .1) (c .before .before .before .before .before .before .before .before .taken .ensures) _ (λ i e. sep-out _ _ _ _ _ _ _ _ e) _ (walk-trying _ _ _ _ _ (c .before .before .before .part-at .ensures) (c .before .before .before .before .loop .inv)) (c .if2 .taken) (sym (c .before .before .serves .ensures) ∙ c .before .if1 .left)
 
 pub +a-holds+added+b-holds+both+child-holds+digit+fill+join+serves+split-spec :
     {M : Type 1} → statement M
@@ -568,10 +576,11 @@ pub +a-holds+added+b-holds+both+child-holds+digit+fill+join+serves+split-spec :
     (split-taken-requires t)
     (split-element-copy-out-table t)
     (split-table-requires t)
+    (split-begin-requires t)
     (split-loop-holds t)
+    (split-part-at-requires t)
     (split-serves-requires t)
-    (split-sub-m t)
-    (split-add-m t)
+    (split-add-i t)
     (split-loop-less t)
     (split-loop-again t)
     (split-returns t)
