@@ -20,7 +20,7 @@ enum hollyspool_number {
     HOLLYSPOOL_SPENT = 2,             /* budget spent */
     HOLLYSPOOL_BOOK_LENGTH = 10,      /* book under 11 or over 206 bytes */
     HOLLYSPOOL_CONTENTS = 11,         /* entry count not 2 */
-    HOLLYSPOOL_BOUNDS = 12,           /* bounds body not 3 bytes, or a bound over 6 */
+    HOLLYSPOOL_BOUNDS = 12,           /* bounds body not 3 bytes, or a bound over 8 */
     HOLLYSPOOL_FORMULA = 13,          /* formula empty or not a multiple of 3 */
     HOLLYSPOOL_OPERATOR = 14,         /* operator not 1 to 10 */
     HOLLYSPOOL_OPERAND = 15,          /* variable over v, child not lower, b of 8 not 0 */
@@ -36,12 +36,12 @@ enum hollyspool_number {
     HOLLYSPOOL_STRAY_VARIABLE = 25,   /* declared variable that no atom names; from a search alone */
     HOLLYSPOOL_BAD_TEXT = 26,         /* text not well-formed: its first byte with which none can go on, or its length */
     HOLLYSPOOL_MANY_NODES = 27,       /* text with over 64 nodes: the last byte of the item that passes 64 */
-    HOLLYSPOOL_MANY_NAMES = 28        /* text with a seventh name: its first byte */
+    HOLLYSPOOL_MANY_NAMES = 28        /* text with a ninth name: its first byte */
 };
 
 /* An output of this many bytes is never too short for a search, for an encoding, for an import, or for an export. */
-#define HOLLYSPOOL_MOST_MODEL 12
-#define HOLLYSPOOL_MOST_ENCODED 6374
+#define HOLLYSPOOL_MOST_MODEL 16
+#define HOLLYSPOOL_MOST_ENCODED 7654
 #define HOLLYSPOOL_MOST_BOOK 206
 #define HOLLYSPOOL_MOST_TEXT 1906
 
@@ -96,7 +96,7 @@ hollyspool_answer hollyspool_assign_ordinary(const uint8_t *book, size_t book_le
 hollyspool_answer hollyspool_import(const uint8_t *text, size_t text_length, uint64_t n, uint64_t p, uint8_t *out,
                                     size_t out_length);
 
-/* Writes the text of the book's formula, as import reads it, with the variables v1 to v6. The answer has no length, and no byte
+/* Writes the text of the book's formula, as import reads it, with the variables v1 to v8. The answer has no length, and no byte
  * of a text is 0: clear the output first, then read up to its first 0 byte, or to its end. A text that is too deep or too large
  * to be read back is written all the same. Output bytes change as for search. */
 hollyspool_answer hollyspool_export(const uint8_t *book, size_t book_length, uint8_t *out, size_t out_length);

@@ -5,6 +5,7 @@
 // satisfies the formula's encoding and yields that model.
 use crate::sweep;
 use crate::sweep::Swept;
+use logic::MODEL;
 use logic::Profile;
 use notation::front;
 use notation::front_of_page;
@@ -52,7 +53,7 @@ fn stray(book: &[u8], bounds: [u8; 3]) -> u8 {
 
 // Whether the search answers what the second judge has found, to the last byte, or refuses a stray variable.
 fn same_search(book: &[u8], bounds: [u8; 3], swept: Swept) -> bool {
-    let mut out = [0u8; 12];
+    let mut out = [0u8; MODEL];
     let a = search::search(Profile::Strong, book, BUDGET, &mut out);
     let x = stray(book, bounds);
     if x != 0 {
@@ -94,9 +95,9 @@ fn same_model(bounds: [u8; 3], swept: Swept, fits: bool) -> bool {
 
 // The stated number is the search's.
 fn searched(t: Tally, book: &[u8], bounds: [u8; 3], number: u64) -> Tally {
-    let wanted = [0u8; 12];
+    let wanted = [0u8; MODEL];
     let swept = sweep::sweep(book, &wanted, bounds);
-    let mut out = [0u8; 12];
+    let mut out = [0u8; MODEL];
     let a = search::search(Profile::Strong, book, BUDGET, &mut out);
     say(b", tried ");
     io::print_decimal(1, a.tried);
@@ -108,7 +109,7 @@ fn judged(
     t: Tally,
     book: &[u8],
     bounds: [u8; 3],
-    wanted: &[u8; 12],
+    wanted: &[u8; MODEL],
     size: usize,
     number: u64,
 ) -> Tally {
@@ -123,9 +124,9 @@ fn assigned(
     t: Tally,
     book: &[u8],
     bounds: [u8; 3],
-    values: &[u8; 12],
+    values: &[u8; MODEL],
     count: usize,
-    wanted: &[u8; 12],
+    wanted: &[u8; MODEL],
 ) -> Tally {
     let swept = sweep::sweep(book, wanted, bounds);
     let a = assign::assign(Profile::Strong, book, front(values, count));
@@ -182,15 +183,15 @@ fn stated_number(statement: &[u8]) -> u64 {
 
 fn run_line(t: Tally, line: &[u8]) -> Tally {
     say(line);
-    let mut bounds = [0u8; 12];
+    let mut bounds = [0u8; MODEL];
     notation::bytes(field(line, 1), &mut bounds);
     let b = [bounds[0], bounds[1], bounds[2]];
     let mut page = [0u8; 256];
     let size = notation::book(b, field(line, 2), &mut page);
     let book = front_of_page(&page, size);
-    let mut wanted = [0u8; 12];
+    let mut wanted = [0u8; MODEL];
     let model_size = notation::bytes(field(line, 3), &mut wanted);
-    let mut values = [0u8; 12];
+    let mut values = [0u8; MODEL];
     let count = notation::bytes(field(line, 4), &mut values);
     let number = stated_number(field(line, 3));
     if model_size == 0 {

@@ -1,5 +1,6 @@
 // Both judges on every candidate of a book, in the candidates' order.
 use leaves::wide;
+use logic::MODEL;
 use logic::Profile;
 use notation::front;
 use second::World;
@@ -19,7 +20,7 @@ pub struct Swept {
 fn compare(
     mut t: Swept,
     book: &[u8],
-    wanted: &[u8; 12],
+    wanted: &[u8; MODEL],
     bounds: [u8; 3],
     w: World,
     h: u8,
@@ -43,7 +44,7 @@ fn compare(
     t
 }
 
-fn sweep_stack(t: Swept, book: &[u8], wanted: &[u8; 12], bounds: [u8; 3], stack: u8) -> Swept {
+fn sweep_stack(t: Swept, book: &[u8], wanted: &[u8; MODEL], bounds: [u8; 3], stack: u8) -> Swept {
     if book.len() < 17 {
         return t;
     }
@@ -70,7 +71,7 @@ fn sweep_stack(t: Swept, book: &[u8], wanted: &[u8; 12], bounds: [u8; 3], stack:
 
 // Over all candidates of the book, if the second judge can judge them. The numbers of the stacks are below 4^3, and have no
 // digit beyond the variables.
-pub fn sweep(book: &[u8], wanted: &[u8; 12], bounds: [u8; 3]) -> Swept {
+pub fn sweep(book: &[u8], wanted: &[u8; MODEL], bounds: [u8; 3]) -> Swept {
     let base = second::stack_base(bounds[1]);
     let v = bounds[0];
     let mut t = Swept {

@@ -72,9 +72,10 @@ rows =
     -- the 65th node, finished before a bad byte, and not finished
     refusing (times 7 (bytes "(and (or (= a a) (= a a)) ") ++ bytes "(and sep.emp sep.empx") 4 4 27 201 ∷
     refusing (times 7 (bytes "(and (or (= a a) (= a a)) ") ++ bytes "(and sep.emp sep.em") 4 4 26 201 ∷
-    -- a seventh name, and one that is not finished
-    refusing (bytes "(and (pto a b)(and (pto c d)(and (pto e f)(pto g a))))") 4 4 28 47 ∷
-    refusing (bytes "(and (pto a b)(and (pto c d)(and (pto e f)(pto g)") 4 4 26 48 ∷
+    -- eight names; a ninth name, and one that is not finished
+    reading (bytes "(and (pto a b)(and (pto c d)(and (pto e f)(pto g h))))") 8 8 8 (3 ∷ 1 ∷ 2 ∷ 3 ∷ 3 ∷ 4 ∷ 3 ∷ 5 ∷ 6 ∷ 3 ∷ 7 ∷ 8 ∷ 5 ∷ 2 ∷ 3 ∷ 5 ∷ 1 ∷ 4 ∷ 5 ∷ 0 ∷ 5 ∷ []) ∷
+    refusing (bytes "(and (pto a b)(and (pto c d)(and (pto e f)(and (pto g h)(pto i a)))))") 4 4 28 61 ∷
+    refusing (bytes "(and (pto a b)(and (pto c d)(and (pto e f)(and (pto g h)(pto i)") 4 4 26 62 ∷
     -- bounds first
     refusing (bytes "") (suc most) 4 12 0 ∷
     refusing (bytes "sep.emp") 4 18446744073709551615 12 0 ∷

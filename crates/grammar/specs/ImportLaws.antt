@@ -15,11 +15,11 @@ use Rattle.logic.specs.Numbers.{answer, yes-number, bounds, output-length}
 use Rattle.logic.specs.Tests.{sameBytes}
 use Rattle.logic.specs.declared.Answer.{Answer}
 use Rattle.grammar.specs.Phrase.{Phrase}
-use Rattle.grammar.specs.Places.{Complaint, bad-at, passes-at, seventh-at}
+use Rattle.grammar.specs.Places.{ComplaintWithin, bad-at, passes-at, name-over-at}
 use Rattle.grammar.specs.Outcome.{refused, outcome, Outcome, taken}
 use Rattle.grammar.specs.Listing.{sizeOf}
 use Rattle.grammar.specs.Meaning.{numberOf, namesOf, meaning, bookFor}
-use Rattle.grammar.specs.Import.{Good, Reading, complains, no-room, reads, importChecks, Imports}
+use Rattle.grammar.specs.Import.{GoodWithin, Good, ReadingWithin, Reading, complains, no-room, reads, importChecks, Imports}
 use Rattle.grammar.specs.Forward.{one-meaning}
 use Rattle.grammar.specs.PlaceLaws.{trace}
 use Rattle.grammar.specs.Verdicts.{Only, only-refused, Taken, Settled, settled, refused-single}
@@ -67,15 +67,15 @@ module _ (s : List ℕ) (F : Phrase) (g : Good s F) where
   )
 
 -- no complaint has number 0
-complaint-number : (s : List ℕ) (m q : ℕ) → Complaint s m q → 1 ≤ m
-complaint-number s m q (Complaint.bad-at k h) = omega arith
-complaint-number s m q (Complaint.passes-at es r f h) = omega arith
-complaint-number s m q (Complaint.seventh-at es r f h) = omega arith
+complaint-number : (w : ℕ) (s : List ℕ) (m q : ℕ) → ComplaintWithin w s m q → 1 ≤ m
+complaint-number w s m q (bad-at k h) = omega arith
+complaint-number w s m q (passes-at es r f h) = omega arith
+complaint-number w s m q (name-over-at es r f h) = omega arith
 
-pub reads-zero : (s : List ℕ) (n p : ℕ) (o : List ℕ) (a : Answer) → Reading s n p o a → a .number ≡ yes-number → (F : Phrase) × Good s F
-reads-zero s n p o a (complains m q r e) z = let y : m ≡ 0 = ap (λ (x : Answer). x .number) (sym e) ∙ z in absurd (omega (arith, complaint-number s m q (r .complaint)))
-reads-zero s n p o a (no-room F g l e) z = (F, g)
-reads-zero s n p o a (reads F g l e) z = (F, g)
+pub reads-zero : (w : ℕ) (s : List ℕ) (n p : ℕ) (o : List ℕ) (a : Answer) → ReadingWithin w s n p o a → a .number ≡ yes-number → (F : Phrase) × GoodWithin w s F
+reads-zero w s n p o a (complains m q r e) z = let y : m ≡ 0 = ap (λ (x : Answer). x .number) (sym e) ∙ z in absurd (omega (arith, complaint-number w s m q (r .complaint)))
+reads-zero w s n p o a (no-room F g l e) z = (F, g)
+reads-zero w s n p o a (reads F g l e) z = (F, g)
 
 -- two results that the statement allows are equal
 pub imports-single : (s : List ℕ) (n p : ℕ) (o : List ℕ) (a b : Answer) (x y : List ℕ) → Imports s n p o a x → Imports s n p o b y → (a ≡ b) × (x ≡ y)
@@ -87,7 +87,7 @@ imports-single s n p o a b x y i j =
     go : a ≡ b → Dec (a .number ≡ yes-number) → x ≡ y
     go e (yes z) =
         let w : b .number ≡ yes-number = ap (λ (r : Answer). r .number) (sym e) ∙ z in
-        let F : (F : Phrase) × Good s F = ⊎-elim (λ u. let v : bounds ≡ 0 = ap (λ (r : Answer). r .number) (sym (u .1)) ∙ z in absurd (omega arith)) (λ u. reads-zero s n p o a (u .1) z) (i .answer) in
+        let F : (F : Phrase) × Good s F = ⊎-elim (λ u. let v : bounds ≡ 0 = ap (λ (r : Answer). r .number) (sym (u .1)) ∙ z in absurd (omega arith)) (λ u. reads-zero most s n p o a (u .1) z) (i .answer) in
         i .wrote z (F .0) (F .1) ∙ sym (j .wrote w (F .0) (F .1))
     go e (no z) = i .kept z ∙ sym (j .kept (λ w. z (ap (λ (r : Answer). r .number) e ∙ w)))
 

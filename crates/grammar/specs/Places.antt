@@ -52,18 +52,25 @@ pub data PassesAt : ℕ → List Event → ℕ → Type 0 where
   past-item : {k p q m : ℕ} {es : List Event} → PassesAt (k + m) es q → PassesAt k (finished p m ∷ es) q
   past-name : {k i j q : ℕ} {x : List ℕ} {es : List Event} → PassesAt k es q → PassesAt k (named x i j ∷ es) q
 
--- "28 a seventh name, at its first byte": after the names ns, the name that begins at i
-pub data SeventhAt : List (List ℕ) → List Event → ℕ → Type 0 where
-  seventh : {ns : List (List ℕ)} {i j : ℕ} {x : List ℕ} {es : List Event} → known ns x ≡ false → length ns ≡ most → SeventhAt ns (named x i j ∷ es) i
-  after-name : {ns : List (List ℕ)} {i j q : ℕ} {x : List ℕ} {es : List Event} → SeventhAt (note ns x) es q → SeventhAt ns (named x i j ∷ es) q
-  after-item : {ns : List (List ℕ)} {p q m : ℕ} {es : List Event} → SeventhAt ns es q → SeventhAt ns (finished p m ∷ es) q
+-- "28 a seventh name, at its first byte"; "a ninth name is refused": one more than k, and after the names ns the one that begins
+-- at i
+pub data NameOverAt (k : ℕ) : List (List ℕ) → List Event → ℕ → Type 0 where
+  one-over : {ns : List (List ℕ)} {i j : ℕ} {x : List ℕ} {es : List Event} → known ns x ≡ false → length ns ≡ k → NameOverAt k ns (named x i j ∷ es) i
+  after-name : {ns : List (List ℕ)} {i j q : ℕ} {x : List ℕ} {es : List Event} → NameOverAt k (note ns x) es q → NameOverAt k ns (named x i j ∷ es) q
+  after-item : {ns : List (List ℕ)} {p q m : ℕ} {es : List Event} → NameOverAt k ns es q → NameOverAt k ns (finished p m ∷ es) q
 
-pub data Complaint (s : List ℕ) : ℕ → ℕ → Type 0 where
-  bad-at : (k : ℕ) → BadAt s k → Complaint s bad-text k
-  passes-at : (es : List Event) (q : ℕ) → Finished s es → PassesAt 0 es q → Complaint s many-nodes q
-  seventh-at : (es : List Event) (i : ℕ) → Finished s es → SeventhAt [] es i → Complaint s many-names i
+pub data ComplaintWithin (k : ℕ) (s : List ℕ) : ℕ → ℕ → Type 0 where
+  bad-at : (i : ℕ) → BadAt s i → ComplaintWithin k s bad-text i
+  passes-at : (es : List Event) (q : ℕ) → Finished s es → PassesAt 0 es q → ComplaintWithin k s many-nodes q
+  name-over-at : (es : List Event) (i : ℕ) → Finished s es → NameOverAt k [] es i → ComplaintWithin k s many-names i
+
+abbrev pub Complaint : List ℕ → ℕ → ℕ → Type 0
+Complaint s m q = ComplaintWithin most s m q
 
 -- "the lowest place decides": the text is refused with number m at place q
-pub record Refused (s : List ℕ) (m q : ℕ) : Type 0 where
-  pub complaint : Complaint s m q
-  pub lowest : (m′ q′ : ℕ) → Complaint s m′ q′ → q ≤ q′
+pub record RefusedWithin (k : ℕ) (s : List ℕ) (m q : ℕ) : Type 0 where
+  pub complaint : ComplaintWithin k s m q
+  pub lowest : (m′ q′ : ℕ) → ComplaintWithin k s m′ q′ → q ≤ q′
+
+abbrev pub Refused : List ℕ → ℕ → ℕ → Type 0
+Refused s m q = RefusedWithin most s m q

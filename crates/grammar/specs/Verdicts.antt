@@ -12,9 +12,9 @@ use Rattle.logic.specs.Book.{most, mostNodes}
 use Rattle.logic.specs.Numbers.{many-nodes, many-names, bad-text}
 use Rattle.grammar.specs.Phrase.{Phrase}
 use Rattle.grammar.specs.Grammar.{Event, named, finished, Means}
-use Rattle.grammar.specs.Places.{BadAt, Finished, note, PassesAt, SeventhAt, Complaint, bad-at, passes-at, seventh-at, Refused}
+use Rattle.grammar.specs.Places.{BadAt, Finished, note, PassesAt, NameOverAt, Complaint, bad-at, passes-at, name-over-at, Refused}
 use Rattle.grammar.specs.Places.PassesAt.{passing, past-item, past-name}
-use Rattle.grammar.specs.Places.SeventhAt.{seventh, after-name, after-item}
+use Rattle.grammar.specs.Places.NameOverAt.{one-over, after-name, after-item}
 use Rattle.grammar.specs.Machine.{item, read, bad, emits}
 use Rattle.grammar.specs.Outcome.{refused, outcome, Outcome, taken, nodesFrom, namesFrom}
 use Rattle.grammar.specs.Traces.{events-of, phrase-of, whole, whole-is}
@@ -31,11 +31,11 @@ passes-in P k (finished p m ∷ es) q h (passing a b) = h .0
 passes-in P k (finished p m ∷ es) q h (past-item r) = passes-in P (k + m) es q (h .1) r
 passes-in P k (named x i j ∷ es) q h (past-name r) = passes-in P k es q (h .1) r
 
-seventh-in : (K lo : ℕ) (ns : List (List ℕ)) (es : List Event) (q : ℕ) → Each (λ j. j < K) es → Sorted lo es → SeventhAt ns es q → q < K
+over-in : (K lo : ℕ) (ns : List (List ℕ)) (es : List Event) (q : ℕ) → Each (λ j. j < K) es → Sorted lo es → NameOverAt most ns es q → q < K
 unfolding Each Sorted
-seventh-in K lo ns (named x i j ∷ es) q h s (seventh a b) = omega (arith, h .0, s .1)
-seventh-in K lo ns (named x i j ∷ es) q h s (after-name r) = seventh-in K j (note ns x) es q (h .1) (s .2) r
-seventh-in K lo ns (finished p m ∷ es) q h s (after-item r) = seventh-in K (suc p) ns es q (h .1) (s .1) r
+over-in K lo ns (named x i j ∷ es) q h s (one-over a b) = omega (arith, h .0, s .1)
+over-in K lo ns (named x i j ∷ es) q h s (after-name r) = over-in K j (note ns x) es q (h .1) (s .2) r
+over-in K lo ns (finished p m ∷ es) q h s (after-item r) = over-in K (suc p) ns es q (h .1) (s .1) r
 
 -- number m at place q, and every other complaint is at a higher place
 pub record Only (s : List ℕ) (m q : ℕ) : Type 0 where
@@ -77,14 +77,14 @@ module _ (s : List ℕ) where
       go : (m′ q′ : ℕ) → Complaint s m′ q′ → ((m′ ≡ many-nodes) × (q′ ≡ z)) ⊎ (z < q′)
       go m′ q′ (bad-at K h) = inr (passes-in (λ j. j < K) 0 (events-of (trace s)) z (f K h) a)
       go m′ q′ (passes-at fs r g h) = same-or-lower many-nodes z q′ (b q′ (subst (λ (x : List Event). PassesAt 0 x q′) (events fs g) h))
-      go m′ q′ (seventh-at fs r g h) = inr (c q′ (subst (λ (x : List Event). SeventhAt [] x q′) (events fs g) h))
+      go m′ q′ (name-over-at fs r g h) = inr (c q′ (subst (λ (x : List Event). NameOverAt most [] x q′) (events fs g) h))
   excess-only f m q (names-first z a b c) =
-      record { complaint = seventh-at (events-of (trace s)) z (finished-trace s) a; others = λ m′ q′ h. go m′ q′ h }
+      record { complaint = name-over-at (events-of (trace s)) z (finished-trace s) a; others = λ m′ q′ h. go m′ q′ h }
     where
       go : (m′ q′ : ℕ) → Complaint s m′ q′ → ((m′ ≡ many-names) × (q′ ≡ z)) ⊎ (z < q′)
-      go m′ q′ (bad-at K h) = inr (seventh-in K 0 [] (events-of (trace s)) z (f K h) sorted a)
+      go m′ q′ (bad-at K h) = inr (over-in K 0 [] (events-of (trace s)) z (f K h) sorted a)
       go m′ q′ (passes-at fs r g h) = inr (c q′ (subst (λ (x : List Event). PassesAt 0 x q′) (events fs g) h))
-      go m′ q′ (seventh-at fs r g h) = same-or-lower many-names z q′ (b q′ (subst (λ (x : List Event). SeventhAt [] x q′) (events fs g) h))
+      go m′ q′ (name-over-at fs r g h) = same-or-lower many-names z q′ (b q′ (subst (λ (x : List Event). NameOverAt most [] x q′) (events fs g) h))
 
   clean-only : (K : ℕ) → BadAt s K → Clean [] 0 (events-of (trace s)) → Only s bad-text K
   clean-only K k c = record { complaint = bad-at K k; others = λ m′ q′ h. go m′ q′ h }
@@ -92,12 +92,12 @@ module _ (s : List ℕ) where
       go : (m′ q′ : ℕ) → Complaint s m′ q′ → ((m′ ≡ bad-text) × (q′ ≡ K)) ⊎ (K < q′)
       go m′ q′ (bad-at J h) = inl (refl, one-place s J K h k)
       go m′ q′ (passes-at fs r g h) = absurd (c .0 q′ (subst (λ (x : List Event). PassesAt 0 x q′) (events fs g) h))
-      go m′ q′ (seventh-at fs r g h) = absurd (c .1 q′ (subst (λ (x : List Event). SeventhAt [] x q′) (events fs g) h))
+      go m′ q′ (name-over-at fs r g h) = absurd (c .1 q′ (subst (λ (x : List Event). NameOverAt most [] x q′) (events fs g) h))
 
   clean-none : (F : Phrase) (fs : List Event) → Means s F fs → Clean [] 0 (events-of (trace s)) → (m q : ℕ) → ¬ Complaint s m q
   clean-none F fs m c m′ q′ (bad-at J h) = h .none F fs m
   clean-none F fs m c m′ q′ (passes-at gs r g h) = c .0 q′ (subst (λ (x : List Event). PassesAt 0 x q′) (events gs g) h)
-  clean-none F fs m c m′ q′ (seventh-at gs r g h) = c .1 q′ (subst (λ (x : List Event). SeventhAt [] x q′) (events gs g) h)
+  clean-none F fs m c m′ q′ (name-over-at gs r g h) = c .1 q′ (subst (λ (x : List Event). NameOverAt most [] x q′) (events gs g) h)
 
   -- the machine's word on a text
   pub settled : Settled s (outcome [] 0 (trace s))

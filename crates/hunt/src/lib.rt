@@ -5,7 +5,6 @@ use judge::node_holds;
 use logic::Answer;
 use logic::Profile;
 use logic::Table;
-use pairs::Pairs;
 use paths::is_short;
 ghost use mathlib.Core.Path.{_≡_};
 ghost use mathlib.Core.Logic.{_⊎_};
@@ -16,7 +15,7 @@ ghost use Rattle.logic.specs.Reflect.{Is};
 ghost use Rattle.logic.specs.Book.{most};
 ghost use Rattle.logic.specs.Search.{CandidateFits, searched};
 ghost use Rattle.cells.specs.Cells.{cells, Barred};
-ghost use Rattle.pairs.specs.Pairs.{Listed};
+ghost use Rattle.pairs.specs.Pairs.{Lists};
 ghost use Rattle.judge.specs.Setting.{room};
 ghost use Rattle.candidates.specs.Counter.{WithinBounds, number};
 ghost use Rattle.hunt.specs.Hunt.{Hunted};
@@ -34,10 +33,9 @@ fn barred_for(profile: Profile, c: Candidate, u: u64) -> u64
 }
 
 // Whether the candidate fits node k of the table f; u is the set of the locations at which two heaps may not meet. The two tests
-// of `judge::fits` stand here themselves: most candidates fail the first, and it is then part of the loop. pairs is the table of
-// sets and parts, one for all candidates.
-fn fits(profile: Profile, f: &Table, k: usize, p: u64, c: Candidate, u: u64, pairs: &Pairs) -> bool
-    requires { ⌜ (k < room) × Sound (c .vars) (now f) (suc k) × WithinBounds c × Barred profile (c .vars) (c .locs) (cells (c .stack)) u × (c .locs ≤ most) × Listed (now pairs) ⌝ }
+// of `judge::fits` stand here themselves: most candidates fail the first, and it is then part of the loop.
+fn fits(profile: Profile, f: &Table, k: usize, p: u64, c: Candidate, u: u64, pairs: &&[u16]) -> bool
+    requires { ⌜ (k < room) × Sound (c .vars) (now f) (suc k) × WithinBounds c × Barred profile (c .vars) (c .locs) (cells (c .stack)) u × (c .locs ≤ most) × Lists most (now (now pairs)) ⌝ }
     ensures { λ r. ⌜ Is r (CandidateFits profile (c .vars) (c .locs) p (tree (now (f .entry)) k) (number c)) ⌝ }
 {
     let b = [c.vars, c.locs, p, c.stack, u, judge::number(profile)];
@@ -85,14 +83,15 @@ pub fn hunt(profile: Profile, f: &Table, k: usize, v: u64, n: u64, p: u64, budge
     requires { ⌜ (k < room) × Sound v (now f) (suc k) × (v ≤ most) × (n ≤ most) ⌝ }
     ensures { λ r. ⌜ Hunted v n (CandidateFits profile v n p (tree (now (f .entry)) k)) budget (r .answer) (r .at) ⌝ }
 {
-    let pairs = pairs::pairs();
+    let all = allpairs::all();
+    let list: &[u16] = &all;
     let t = candidates::total(v, n);
     let end = least(t, budget);
     let mut c = Candidate::first(v, n);
     let mut u = barred_for(profile, c, 0);
     let mut i: u64 = 0;
     while i < end {
-        if fits(profile, f, k, p, c, u, &pairs) {
+        if fits(profile, f, k, p, c, u, &list) {
             return stop(logic::YES, i + 1, c);
         }
         c = c.next();

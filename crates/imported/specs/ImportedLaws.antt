@@ -62,4 +62,4 @@ pub import-writes : (s : List ℕ) (n p : ℕ) (o : List ℕ) (a : Answer) (o′
 unfolding Answers
 import-writes s n p o a o′ i z =
     ⊎-elim (λ u. let y : bounds ≡ 0 = ap (λ (r : Answer). r .number) (sym (u .1)) ∙ z in absurd (omega arith))
-    (λ u. let r = reads-zero s n p o a (u .1) z in (r .0, bookFor n p (r .0), book-imported s (r .0) (r .1) n p (u .0 .0) (u .0 .1), i .wrote z (r .0) (r .1))) (i .answer)
+    (λ u. let r = reads-zero most s n p o a (u .1) z in (r .0, bookFor n p (r .0), book-imported s (r .0) (r .1) n p (u .0 .0) (u .0 .1), i .wrote z (r .0) (r .1))) (i .answer)

@@ -2,17 +2,15 @@
 use mathlib.Core.Path.{_≡_, sym, subst, _∙_, ap}
 use mathlib.Core.Bool.{Bool, false}
 use mathlib.Core.List.{List}
-use Prim.Native.Nat.{ℕ, suc, _+_, _<_, _≤_}
-use native.Mathlib.Nat.{pow-le-pow-right, lt-of-lt-of-le}
+use Prim.Native.Nat.{ℕ, suc, _+_, _≤_}
 use native.Mathlib.Omega.{arith}
 use Rattle.logic.specs.Heap.{Heap}
-use Rattle.logic.specs.Book.{most as mostListed}
 use Rattle.logic.specs.Tests.{within}
 use Rattle.cells.specs.Cells.{most, cells, Taken}
-use Rattle.pairs.specs.Pairs.{sets, Listed, partAt, Inside}
+use Rattle.pairs.specs.Pairs.{partAt, Inside}
 use Rattle.pairs.specs.PairLaws.{inside-next}
 use Rattle.judge.specs.Setting.{Trying, Walking}
-use Rattle.judge.specs.Trial.{taken-small, trying-first, trying-next}
+use Rattle.judge.specs.Trial.{trying-first, trying-next}
 
 -- the trial is at the part m that stands at the walk's place
 pub walk-trying : (t : List ℕ) (F : ℕ → Bool) (a i m : ℕ) → m ≡ partAt t i → Walking t F a i → Trying F a m
@@ -22,13 +20,9 @@ pub walk-first : (t : List ℕ) (F : ℕ → Bool) (a i : ℕ) → Inside t i a 
 walk-first t F a i n e = record { inside = n; trying = subst (Trying F a) (sym e) (trying-first F a) }
 
 module _ (n w a : ℕ) (few : n ≤ most) (kw : Heap n (cells w)) (k : Taken w a) where
-  -- the allocated set has a stretch
-  pub taken-listed : n ≤ mostListed → a < sets
-  taken-listed l = lt-of-lt-of-le (taken-small n w a few kw k) (pow-le-pow-right {n = 2} (omega arith) l)
-
-  pub walk-next : (F : ℕ → Bool) → ((i : ℕ) → within n i (cells w) ≡ false → F i ≡ false) → (t : List ℕ) → Listed t → (i m : ℕ) → m ≡ partAt t i → Walking t F a i → ¬ (m ≡ a) → F m ≡ false → Walking t F a (i + 1)
-  walk-next F out t l i m e q ne fm =
-      let at = inside-next t l i a (q .inside) (λ z. ne (e ∙ z)) in
+  pub walk-next : (F : ℕ → Bool) → ((i : ℕ) → within n i (cells w) ≡ false → F i ≡ false) → (t : List ℕ) (i m : ℕ) → m ≡ partAt t i → Walking t F a i → ¬ (m ≡ a) → F m ≡ false → Walking t F a (i + 1)
+  walk-next F out t i m e q ne fm =
+      let at = inside-next t i a (q .inside) (λ z. ne (e ∙ z)) in
       let on = trying-next n w a few kw k F out (partAt t i) (q .trying) (ap F (sym e) ∙ fm) in
       let one : suc i ≡ i + 1 = omega arith in
       subst (Walking t F a) one (record { inside = at .0; trying = subst (Trying F a) (sym (at .1)) on })

@@ -15,7 +15,7 @@ use leaves::long;
 use leaves::wide;
 use logic::Profile;
 use logic::Table;
-use pairs::Pairs;
+use pairs::FEW;
 use pairs::begin;
 use pairs::part_at;
 use paths::is_short;
@@ -28,7 +28,7 @@ ghost use Rattle.logic.specs.Tests.{andb, within};
 ghost use Rattle.logic.specs.Reflect.{Is};
 ghost use Rattle.logic.specs.Model.{Fits};
 ghost use Rattle.cells.specs.Cells.{full, cells, Tabled, Source, SourceBelow};
-ghost use Rattle.pairs.specs.Pairs.{Listed};
+ghost use Rattle.pairs.specs.Pairs.{Lists};
 ghost use Rattle.judge.specs.Setting.{varsOf, locsOf, pathOf, profileFrom, profileOf, stackOf, barredOf, Ready, Joined, truthAt, firstAt, secondAt, servesAt, Chosen, Found, FoundAt, Filled};
 
 // The mark that no part serves: one more than the greatest part.
@@ -61,9 +61,10 @@ fn atom(f: &Table, k: usize, b: &[u64; 6], w: u64) -> bool
 }
 
 // Whether node k of the table f holds on the heap w. b has v, n, p, the packed stack, the set of the locations at which two
-// heaps may not meet, and the profile's number: see specs/Setting.antt. pairs is the table of sets and parts.
-pub fn node_holds(f: &Table, k: usize, b: &[u64; 6], w: u64, pairs: &Pairs) -> bool
-    requires { ⌜ Ready (now f) (now b) k × Heap (locsOf (now b)) (cells w) × Listed (now pairs) ⌝ }
+// heaps may not meet, and the profile's number: see specs/Setting.antt. pairs is a table of
+// sets and parts for as many locations or more.
+pub fn node_holds(f: &Table, k: usize, b: &[u64; 6], w: u64, pairs: &&[u16]) -> bool
+    requires { ⌜ Ready (now f) (now b) k × Heap (locsOf (now b)) (cells w) × Lists (locsOf (now b)) (now (now pairs)) ⌝ }
     ensures { λ r. ⌜ r ≡ truthAt (now (f .entry)) (now (b .entry)) k (cells w) ⌝ }
 {
     let op = f[3 * k];
@@ -76,8 +77,8 @@ pub fn node_holds(f: &Table, k: usize, b: &[u64; 6], w: u64, pairs: &Pairs) -> b
 
 // The same for a node that is a child. With two callers `join` is compiled apart, so that an atom saves no registers: all
 // formulas are judged a tenth to a third faster. A negation is judged here and not there, for the same reason.
-fn child_holds(f: &Table, k: usize, b: &[u64; 6], w: u64, pairs: &Pairs) -> bool
-    requires { ⌜ Ready (now f) (now b) k × Heap (locsOf (now b)) (cells w) × Listed (now pairs) ⌝ }
+fn child_holds(f: &Table, k: usize, b: &[u64; 6], w: u64, pairs: &&[u16]) -> bool
+    requires { ⌜ Ready (now f) (now b) k × Heap (locsOf (now b)) (cells w) × Lists (locsOf (now b)) (now (now pairs)) ⌝ }
     ensures { λ r. ⌜ r ≡ truthAt (now (f .entry)) (now (b .entry)) k (cells w) ⌝ }
 {
     let op = f[3 * k];
@@ -91,23 +92,23 @@ fn child_holds(f: &Table, k: usize, b: &[u64; 6], w: u64, pairs: &Pairs) -> bool
     }
 }
 
-fn a_holds(f: &Table, k: usize, b: &[u64; 6], w: u64, pairs: &Pairs) -> bool
-    requires { ⌜ Joined (now f) (now b) k × Heap (locsOf (now b)) (cells w) × Listed (now pairs) ⌝ }
+fn a_holds(f: &Table, k: usize, b: &[u64; 6], w: u64, pairs: &&[u16]) -> bool
+    requires { ⌜ Joined (now f) (now b) k × Heap (locsOf (now b)) (cells w) × Lists (locsOf (now b)) (now (now pairs)) ⌝ }
     ensures { λ r. ⌜ r ≡ firstAt (now (f .entry)) (now (b .entry)) k (cells w) ⌝ }
 {
     child_holds(f, wide(f[3 * k + 1]), b, w, pairs)
 }
 
-fn b_holds(f: &Table, k: usize, b: &[u64; 6], w: u64, pairs: &Pairs) -> bool
-    requires { ⌜ Joined (now f) (now b) k × Heap (locsOf (now b)) (cells w) × Listed (now pairs) ⌝ }
+fn b_holds(f: &Table, k: usize, b: &[u64; 6], w: u64, pairs: &&[u16]) -> bool
+    requires { ⌜ Joined (now f) (now b) k × Heap (locsOf (now b)) (cells w) × Lists (locsOf (now b)) (now (now pairs)) ⌝ }
     ensures { λ r. ⌜ r ≡ secondAt (now (f .entry)) (now (b .entry)) k (cells w) ⌝ }
 {
     child_holds(f, wide(f[3 * k + 2]), b, w, pairs)
 }
 
 // Whether a holds on g and b on h: a before b, and b only where it can still decide.
-fn both(f: &Table, k: usize, b: &[u64; 6], g: u64, h: u64, pairs: &Pairs) -> bool
-    requires { ⌜ Joined (now f) (now b) k × Heap (locsOf (now b)) (cells g) × Heap (locsOf (now b)) (cells h) × Listed (now pairs) ⌝ }
+fn both(f: &Table, k: usize, b: &[u64; 6], g: u64, h: u64, pairs: &&[u16]) -> bool
+    requires { ⌜ Joined (now f) (now b) k × Heap (locsOf (now b)) (cells g) × Heap (locsOf (now b)) (cells h) × Lists (locsOf (now b)) (now (now pairs)) ⌝ }
     ensures { λ r. ⌜ r ≡ andb (firstAt (now (f .entry)) (now (b .entry)) k (cells g)) (secondAt (now (f .entry)) (now (b .entry)) k (cells h)) ⌝ }
 {
     if a_holds(f, k, b, g, pairs) {
@@ -118,8 +119,8 @@ fn both(f: &Table, k: usize, b: &[u64; 6], g: u64, h: u64, pairs: &Pairs) -> boo
 }
 
 // Operators 5 to 10, over lower nodes.
-fn join(f: &Table, k: usize, b: &[u64; 6], w: u64, pairs: &Pairs) -> bool
-    requires { ⌜ Joined (now f) (now b) k × Heap (locsOf (now b)) (cells w) × Listed (now pairs) ⌝ }
+fn join(f: &Table, k: usize, b: &[u64; 6], w: u64, pairs: &&[u16]) -> bool
+    requires { ⌜ Joined (now f) (now b) k × Heap (locsOf (now b)) (cells w) × Lists (locsOf (now b)) (now (now pairs)) ⌝ }
     ensures { λ r. ⌜ r ≡ truthAt (now (f .entry)) (now (b .entry)) k (cells w) ⌝ }
 {
     let op = f[3 * k];
@@ -147,15 +148,16 @@ fn join(f: &Table, k: usize, b: &[u64; 6], w: u64, pairs: &Pairs) -> bool
 
 // The lowest part that serves, or the mark that none does. The parts are those of the allocated set's stretch in the table of
 // pairs, which goes upward and ends with all of the set.
-fn split(f: &Table, k: usize, b: &[u64; 6], w: u64, pairs: &Pairs) -> u64
-    requires { ⌜ Joined (now f) (now b) k × Heap (locsOf (now b)) (cells w) × Listed (now pairs) ⌝ }
+fn split(f: &Table, k: usize, b: &[u64; 6], w: u64, pairs: &&[u16]) -> u64
+    requires { ⌜ Joined (now f) (now b) k × Heap (locsOf (now b)) (cells w) × Lists (locsOf (now b)) (now (now pairs)) ⌝ }
     ensures { λ r. ⌜ Chosen (servesAt (now (f .entry)) (now (b .entry)) k w) (2 ^ locsOf (now (b .entry))) r ⌝ }
 {
     let a = taken(w);
     let t = table(b[4], w);
-    let mut i = begin(pairs, a);
+    let list = *pairs;
+    let mut i = begin(list, a);
     let part = loop {
-        let m = part_at(pairs, i);
+        let m = part_at(list, i);
         if serves(f, k, b, w, t, m, pairs) {
             break m;
         }
@@ -168,8 +170,8 @@ fn split(f: &Table, k: usize, b: &[u64; 6], w: u64, pairs: &Pairs) -> u64
 }
 
 // Whether part m of w serves, where all its locations are allocated; t is w's table.
-fn serves(f: &Table, k: usize, b: &[u64; 6], w: u64, t: u64, m: u64, pairs: &Pairs) -> bool
-    requires { ⌜ Joined (now f) (now b) k × Heap (locsOf (now b)) (cells w) × Tabled (barredOf (now b)) w t × (m < full) × (within (locsOf (now b)) m (cells w) ≡ true) × Listed (now pairs) ⌝ }
+fn serves(f: &Table, k: usize, b: &[u64; 6], w: u64, t: u64, m: u64, pairs: &&[u16]) -> bool
+    requires { ⌜ Joined (now f) (now b) k × Heap (locsOf (now b)) (cells w) × Tabled (barredOf (now b)) w t × (m < full) × (within (locsOf (now b)) m (cells w) ≡ true) × Lists (locsOf (now b)) (now (now pairs)) ⌝ }
     ensures { λ r. ⌜ r ≡ servesAt (now (f .entry)) (now (b .entry)) k w m ⌝ }
 {
     let e = spread(m);
@@ -183,8 +185,8 @@ fn serves(f: &Table, k: usize, b: &[u64; 6], w: u64, t: u64, m: u64, pairs: &Pai
 // Whether some added heap serves. Only locations where a cell may be added are filled, from the last down and each digit
 // upward: that is the candidates' order. No added cell may touch the barred locations, which are those of w at which two
 // heaps may not meet.
-fn added(f: &Table, k: usize, b: &[u64; 6], w: u64, pairs: &Pairs) -> bool
-    requires { ⌜ Joined (now f) (now b) k × Heap (locsOf (now b)) (cells w) × Listed (now pairs) ⌝ }
+fn added(f: &Table, k: usize, b: &[u64; 6], w: u64, pairs: &&[u16]) -> bool
+    requires { ⌜ Joined (now f) (now b) k × Heap (locsOf (now b)) (cells w) × Lists (locsOf (now b)) (now (now pairs)) ⌝ }
     ensures { λ r. ⌜ Found (now (f .entry)) (now (b .entry)) k w (locsOf (now (b .entry))) 0 r ⌝ }
 {
     let barred = met(b[4], w);
@@ -204,9 +206,9 @@ fn fill(
     barred: u64,
     l: u64,
     g: u64,
-    pairs: &Pairs,
+    pairs: &&[u16],
 ) -> bool
-    requires { ⌜ Joined (now f) (now b) k × Heap (locsOf (now b)) (cells w) × Filled (locsOf (now b)) (barredOf (now b)) w barred l g × (0 < l) × Source w barred l × Listed (now pairs) ⌝ }
+    requires { ⌜ Joined (now f) (now b) k × Heap (locsOf (now b)) (cells w) × Filled (locsOf (now b)) (barredOf (now b)) w barred l g × (0 < l) × Source w barred l × Lists (locsOf (now b)) (now (now pairs)) ⌝ }
     ensures { λ r. ⌜ Found (now (f .entry)) (now (b .entry)) k w l g r ⌝ }
 {
     let next = source_below(w, barred, l - 1);
@@ -232,9 +234,9 @@ fn digit(
     next: u64,
     g: u64,
     d: u64,
-    pairs: &Pairs,
+    pairs: &&[u16],
 ) -> bool
-    requires { ⌜ Joined (now f) (now b) k × Heap (locsOf (now b)) (cells w) × Filled (locsOf (now b)) (barredOf (now b)) w barred l g × (0 < l) × Source w barred l × (next < l) × SourceBelow w barred (l - 1) next × (d ≤ suc (locsOf (now b))) × Listed (now pairs) ⌝ }
+    requires { ⌜ Joined (now f) (now b) k × Heap (locsOf (now b)) (cells w) × Filled (locsOf (now b)) (barredOf (now b)) w barred l g × (0 < l) × Source w barred l × (next < l) × SourceBelow w barred (l - 1) next × (d ≤ suc (locsOf (now b))) × Lists (locsOf (now b)) (now (now pairs)) ⌝ }
     ensures { λ r. ⌜ FoundAt (now (f .entry)) (now (b .entry)) k w l g d r ⌝ }
 {
     if !is_target(barred, d) {
@@ -247,8 +249,29 @@ fn digit(
     fill(f, k, b, w, barred, next, h, pairs)
 }
 
-// The same as `node_holds` with a table of its own, which an atom goes without: a table is laid out on the stack anew for each
-// call, and a search has one for all its candidates.
+// The same as `join` with a table of its own, the short one.
+fn few_hold(f: &Table, k: usize, b: &[u64; 6], w: u64) -> bool
+    requires { ⌜ Joined (now f) (now b) k × Heap (locsOf (now b)) (cells w) × (locsOf (now b) ≤ 6) ⌝ }
+    ensures { λ r. ⌜ r ≡ truthAt (now (f .entry)) (now (b .entry)) k (cells w) ⌝ }
+{
+    let few = pairs::few();
+    let list: &[u16] = &few;
+    join(f, k, b, w, &list)
+}
+
+// And with the one for all sets.
+fn all_hold(f: &Table, k: usize, b: &[u64; 6], w: u64) -> bool
+    requires { ⌜ Joined (now f) (now b) k × Heap (locsOf (now b)) (cells w) ⌝ }
+    ensures { λ r. ⌜ r ≡ truthAt (now (f .entry)) (now (b .entry)) k (cells w) ⌝ }
+{
+    let all = allpairs::all();
+    let list: &[u16] = &all;
+    join(f, k, b, w, &list)
+}
+
+// The same as `node_holds` with a table of its own, which an atom goes without. A table is laid out on the stack anew for each
+// call, which takes nine times as long for the long one, so that is for more than six locations alone; a search has one for
+// all its candidates. The two functions are apart, since the long one's room on the stack is made where a function begins.
 fn root_holds(f: &Table, k: usize, b: &[u64; 6], w: u64) -> bool
     requires { ⌜ Ready (now f) (now b) k × Heap (locsOf (now b)) (cells w) ⌝ }
     ensures { λ r. ⌜ r ≡ truthAt (now (f .entry)) (now (b .entry)) k (cells w) ⌝ }
@@ -257,8 +280,10 @@ fn root_holds(f: &Table, k: usize, b: &[u64; 6], w: u64) -> bool
     if op <= 4 {
         return atom(f, k, b, w);
     }
-    let pairs = pairs::pairs();
-    join(f, k, b, w, &pairs)
+    if b[1] <= FEW {
+        return few_hold(f, k, b, w);
+    }
+    all_hold(f, k, b, w)
 }
 
 // Whether the heap w fits node k of the table f, as a model's heap does: the node holds, and no path is too long.

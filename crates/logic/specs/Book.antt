@@ -11,9 +11,9 @@ use Rattle.logic.specs.Numbers.{answer, yes-number, book-length, content
 use Rattle.logic.specs.Checks.{Checks, done, check, _then_, upto, Passes, Answers}
 use Rattle.logic.specs.Table.{OperatorOk, OperandsOk, Sound, Tree, uses, tree}
 
--- the most that v, n and p may be: "each 0 to 6"
+-- the most that v, n and p may be: "Raise all three bounds to 8"
 abbrev pub most : ℕ
-most = 6
+most = 8
 
 -- the most nodes that a formula has: "1 to 64 nodes"
 abbrev pub mostNodes : ℕ
@@ -74,12 +74,16 @@ StretchOk s e = (offset s e ≡ startOf s e) × EndOk s e
 abbrev pub stretch : List ℕ → ℕ → List ℕ
 stretch s e = take (size s e) (drop (offset s e) s)
 
--- "Bounds: v, n, p, one byte each, each 0 to 6."
-pub record BoundsOk (b : List ℕ) : Type 0 where
+-- "Bounds: v, n, p, one byte each, each 0 to" k. What a statement says of a bench whose bounds go up to k is its name with
+-- `Within`; the name without it is for this bench, in which k is `most`.
+pub record BoundsWithin (k : ℕ) (b : List ℕ) : Type 0 where
   pub three : length b ≡ 3
-  pub vars : getD b 0 0 ≤ most
-  pub locs : getD b 1 0 ≤ most
-  pub path : getD b 2 0 ≤ most
+  pub vars : getD b 0 0 ≤ k
+  pub locs : getD b 1 0 ≤ k
+  pub path : getD b 2 0 ≤ k
+
+abbrev pub BoundsOk : List ℕ → Type 0
+BoundsOk b = BoundsWithin most b
 
 abbrev pub varsOf : List ℕ → ℕ
 varsOf s = getD (stretch s 0) 0 0
@@ -117,8 +121,11 @@ entryChecks s e = check (KindOk s e) entry-kind e (check (StretchOk s e) entry-s
 abbrev pub contentsChecks : List ℕ → Checks
 contentsChecks s = check (LengthOk s) book-length 0 (check (CountOk s) contents 0 (entryChecks s 0 then entryChecks s 1))
 
+abbrev pub bodyChecksWithin : ℕ → List ℕ → List ℕ → Checks
+bodyChecksWithin k b f = check (BoundsWithin k b) bounds 0 (check (FormulaOk f) formula-length 0 done)
+
 abbrev pub bodyChecks : List ℕ → List ℕ → Checks
-bodyChecks b f = check (BoundsOk b) bounds 0 (check (FormulaOk f) formula-length 0 done)
+bodyChecks b f = bodyChecksWithin most b f
 
 abbrev pub nodeChecks : ℕ → List ℕ → ℕ → Checks
 nodeChecks v f k = check (OperatorOk f k) operator k (check (OperandsOk v f k) operand k done)
@@ -129,16 +136,23 @@ useChecks f k = check (uses f (nodes f) k ≡ 1) tree-shape k done
 abbrev pub tableChecks : ℕ → List ℕ → Checks
 tableChecks v f = upto (nodeChecks v f) (nodes f) then upto (useChecks f) (root f)
 
+abbrev pub bookChecksWithin : ℕ → List ℕ → Checks
+bookChecksWithin k s =
+    contentsChecks s then (bodyChecksWithin k (stretch s 0) (formulaOf s) then tableChecks (varsOf s) (formulaOf s))
+
 abbrev pub bookChecks : List ℕ → Checks
-bookChecks s = contentsChecks s then (bodyChecks (stretch s 0) (formulaOf s) then tableChecks (varsOf s) (formulaOf s))
+bookChecks s = bookChecksWithin most s
 
 -- the contents and the bounds of a book whose second body has that kind, so many bytes, and starts at byte 14
 abbrev pub headOf : ℕ → ℕ → ℕ → ℕ → ℕ → List ℕ
 headOf kind v n p bytes = 2 ∷ 1 ∷ 11 ∷ 0 ∷ 3 ∷ 0 ∷ kind ∷ 14 ∷ 0 ∷ (bytes % 256) ∷ (bytes / 256) ∷ v ∷ n ∷ p ∷ []
 
 -- what `read` gives back for the book s: number 0, or the refusal of the first part that fails
+abbrev pub ReadsWithin : ℕ → List ℕ → Answer → Type 0
+ReadsWithin k s a = Answers (bookChecksWithin k s) (λ r. r ≡ answer yes-number 0) a
+
 unfoldable pub Reads : List ℕ → Answer → Type 0
-Reads s a = Answers (bookChecks s) (λ r. r ≡ answer yes-number 0) a
+Reads s a = ReadsWithin most s a
 
 -- what opening the book s gives: the reader's answer and, for an accepted book, its bounds
 pub record Opens (s : List ℕ) (a : Answer) (v n p : ℕ) : Type 0 where
@@ -147,8 +161,11 @@ pub record Opens (s : List ℕ) (a : Answer) (v n p : ℕ) : Type 0 where
   pub none : ¬ (a .number ≡ yes-number) → (v ≡ 0) × (n ≡ 0) × (p ≡ 0)
 
 -- the book is as document 01 says, in every part
+abbrev pub AcceptedWithin : ℕ → List ℕ → Type 0
+AcceptedWithin k s = Passes (bookChecksWithin k s)
+
 unfoldable pub Accepted : List ℕ → Type 0
-Accepted s = Passes (bookChecks s)
+Accepted s = AcceptedWithin most s
 
 -- the book is not refused before 12
 abbrev pub LaidOut : List ℕ → Type 0

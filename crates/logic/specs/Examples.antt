@@ -62,7 +62,8 @@ searching b k r t m = search (record { profile = Strong; book = b; budget = k; n
 -- P1, P2: x ↦ x; P3: x ↦ nil; P4: ls(x,nil); P5: x ≠ nil; P6: nil ↦ x; P7, P8; P9; P10; P11 at p = 1 and p = 2; P12; P13 at
 -- n = 0 and n = 1, and its truths there; P14 both ways. Then paths: of two links, where p = 1; that of an added heap, which does
 -- not count; a cell that points to itself, which is none; and a cycle of two cells, which is one of one link, where p = 1 and
--- where p = 0
+-- where p = 0. Last eight variables and eight locations: the last variable's cell alone, and a queue of eight cells, where p = 8
+-- and where p = 7
 pub rows : List Row
 rows =
     searching (bookOf 1 1 1 (3 ∷ 1 ∷ 1 ∷ [])) 6 yes-number 6 (1 ∷ 1 ∷ [])
@@ -92,6 +93,9 @@ rows =
     ∷ judging (bookOf 1 1 0 (3 ∷ 1 ∷ 1 ∷ [])) (1 ∷ 1 ∷ []) yes-number
     ∷ judging (bookOf 2 2 1 cycle) (1 ∷ 2 ∷ 2 ∷ 1 ∷ []) yes-number
     ∷ judging (bookOf 2 2 0 cycle) (1 ∷ 2 ∷ 2 ∷ 1 ∷ []) no-number
+    ∷ judging (bookOf 8 8 8 (3 ∷ 8 ∷ 7 ∷ [])) (1 ∷ 2 ∷ 3 ∷ 4 ∷ 5 ∷ 6 ∷ 7 ∷ 8 ∷ 255 ∷ 255 ∷ 255 ∷ 255 ∷ 255 ∷ 255 ∷ 255 ∷ 7 ∷ []) yes-number
+    ∷ judging (bookOf 1 8 8 queue) (1 ∷ 2 ∷ 3 ∷ 4 ∷ 5 ∷ 6 ∷ 7 ∷ 8 ∷ 0 ∷ []) yes-number
+    ∷ judging (bookOf 1 8 7 queue) (1 ∷ 2 ∷ 3 ∷ 4 ∷ 5 ∷ 6 ∷ 7 ∷ 8 ∷ 0 ∷ []) no-number
     ∷ []
 
 -- every result that the judge's or the search's statement allows is the row's

@@ -15,7 +15,7 @@ use Rattle.logic.specs.Formula.{Form}
 use Rattle.logic.specs.Paths.{NoLongPath}
 use Rattle.logic.specs.Holds.{Holds}
 use Rattle.logic.specs.Tests.{pick}
-use Rattle.logic.specs.Book.{bookChecks, varsOf, locsOf, pathOf, bookFormula}
+use Rattle.logic.specs.Book.{most, bookChecksWithin, varsOf, locsOf, pathOf, bookFormula}
 
 -- "A model is v bytes (each variable's location, 0 to n)"
 unfoldable pub stackIn : ℕ → List ℕ → Map
@@ -56,13 +56,19 @@ FitsBook π s m =
     Fits π (varsOf s) (locsOf s) (pathOf s) (bookFormula s) (stackIn (varsOf s) m) (heapIn (varsOf s) (locsOf s) m)
 
 -- "Order: 10 to 13; then nodes upwards, ..; 16; then 17, 18 (model)"
+abbrev pub judgeChecksWithin : ℕ → List ℕ → List ℕ → Checks
+judgeChecksWithin k s m = bookChecksWithin k s then modelChecks (varsOf s) (locsOf s) m
+
 abbrev pub judgeChecks : List ℕ → List ℕ → Checks
-judgeChecks s m = bookChecks s then modelChecks (varsOf s) (locsOf s) m
+judgeChecks s m = judgeChecksWithin most s m
 
 -- "0: fits"; "1: doesn't fit"
 abbrev pub Verdict : Type 0 → Answer → Type 0
 Verdict P a = (P × (a ≡ answer yes-number 0)) ⊎ ((¬ P) × (a ≡ answer no-number 0))
 
 -- what the model judge gives back for the book s and the model m
+abbrev pub JudgesWithin : ℕ → Profile → List ℕ → List ℕ → Answer → Type 0
+JudgesWithin k π s m a = Answers (judgeChecksWithin k s m) (Verdict (FitsBook π s m)) a
+
 unfoldable pub Judges : Profile → List ℕ → List ℕ → Answer → Type 0
-Judges π s m a = Answers (judgeChecks s m) (Verdict (FitsBook π s m)) a
+Judges π s m a = JudgesWithin most π s m a

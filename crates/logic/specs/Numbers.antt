@@ -23,7 +23,7 @@ book-length = 10
 abbrev pub contents : ℕ
 contents = 11
 
--- "bounds body not 3 bytes, or a byte over 6"
+-- "bounds body not 3 bytes, or a byte over 6"; "Number 12 begins at 9"
 abbrev pub bounds : ℕ
 bounds = 12
 
@@ -76,7 +76,7 @@ entry-stretch = 24
 abbrev pub stray-variable : ℕ
 stray-variable = 25
 
--- "26 bad text", "27 more than 64 nodes", "28 a seventh name" (document 02)
+-- "26 bad text", "27 more than 64 nodes", "28 a seventh name" (document 02), which is the ninth: "a ninth name is refused"
 abbrev pub bad-text : ℕ
 bad-text = 26
 

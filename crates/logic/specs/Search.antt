@@ -10,7 +10,7 @@ use Rattle.logic.specs.Numbers.{yes-number, no-number, spent-number, out
 use Rattle.logic.specs.Checks.{Checks, done, check, _then_, upto, Answers}
 use Rattle.logic.specs.Formula.{Form}
 use Rattle.logic.specs.Tests.{heapOf}
-use Rattle.logic.specs.Book.{bookChecks, varsOf, locsOf, pathOf, formulaOf, bookFormula}
+use Rattle.logic.specs.Book.{most, bookChecksWithin, varsOf, locsOf, pathOf, formulaOf, bookFormula}
 use Rattle.logic.specs.Strays.{nameChecks}
 use Rattle.logic.specs.Model.{Fits}
 use Rattle.logic.specs.Candidates.{total, stackOf, modelOf}
@@ -59,12 +59,18 @@ abbrev pub searchRest : List ℕ → List ℕ → Checks
 searchRest s o = upto (nameChecks (formulaOf s)) (varsOf s) then roomChecks s o
 
 -- "Order: 10 to 13; then nodes upwards, ..; 16; then .. 20 (search)"
+abbrev pub searchChecksWithin : ℕ → List ℕ → List ℕ → Checks
+searchChecksWithin k s o = bookChecksWithin k s then searchRest s o
+
 abbrev pub searchChecks : List ℕ → List ℕ → Checks
-searchChecks s o = bookChecks s then searchRest s o
+searchChecks s o = searchChecksWithin most s o
 
 -- what a search of the book s with budget b over the output o gives back, and the output that it leaves: "Output bytes change
 -- only with number 0, only at the front, and only as many as are written."
-pub record Searches (π : Profile) (s : List ℕ) (b : ℕ) (o : List ℕ) (a : Answer) (o′ : List ℕ) : Type 0 where
-  pub answer : Answers (searchChecks s o) (Outcome (FitsAt π s) (totalOf s) b) a
+pub record SearchesWithin (k : ℕ) (π : Profile) (s : List ℕ) (b : ℕ) (o : List ℕ) (a : Answer) (o′ : List ℕ) : Type 0 where
+  pub answer : Answers (searchChecksWithin k s o) (Outcome (FitsAt π s) (totalOf s) b) a
   pub wrote : a .number ≡ yes-number → o′ ≡ modelOf (varsOf s) (locsOf s) (a .tried - 1) ++ drop (varsOf s + locsOf s) o
   pub kept : ¬ (a .number ≡ yes-number) → o′ ≡ o
+
+abbrev pub Searches : Profile → List ℕ → ℕ → List ℕ → Answer → List ℕ → Type 0
+Searches π s b o a o′ = SearchesWithin most π s b o a o′

@@ -6,9 +6,9 @@ use native.Mathlib.Omega.{arith}
 use Rattle.logic.specs.Book.{most}
 use Rattle.logic.specs.Candidates.{total}
 
--- "T .. at most 30,840,979,456"
+-- "T is at most 4,304,672,100,000,000"
 abbrev pub mostTotal : ℕ
-mostTotal = 30840979456
+mostTotal = 4304672100000000
 
 -- more variables and more locations have no fewer candidates
 total-grows : (v v′ n n′ : ℕ) → v ≤ v′ → n ≤ n′ → total v n ≤ total v′ n′

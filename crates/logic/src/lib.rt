@@ -8,7 +8,10 @@ pub struct Answer {
 }
 
 // The most that v, n and p may be.
-pub const MOST: usize = 6;
+pub const MOST: usize = 8;
+
+// The most bytes of a model.
+pub const MODEL: usize = 2 * MOST;
 
 // The most nodes that a formula may have, and a table with room for them.
 pub const NODES: usize = 64;

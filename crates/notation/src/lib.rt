@@ -7,6 +7,7 @@
 //
 // Models and assignments: a digit for each byte, - for 255; anything else is skipped.
 use leaves::wide;
+use logic::MODEL;
 use logic::TABLE;
 use logic::Table;
 
@@ -230,8 +231,8 @@ pub fn front_of_page(page: &[u8; 256], n: usize) -> &[u8] {
     front(page, n)
 }
 
-// The bytes of a model or an assignment, at most twelve; gives back their count.
-pub fn bytes(digits: &[u8], out: &mut [u8; 12]) -> usize {
+// The bytes of a model or an assignment, at most as many as a model has; gives back their count.
+pub fn bytes(digits: &[u8], out: &mut [u8; MODEL]) -> usize {
     let mut count = 0;
     let mut i = 0;
     while i < digits.len() {
@@ -242,8 +243,8 @@ pub fn bytes(digits: &[u8], out: &mut [u8; 12]) -> usize {
 }
 
 // Puts the character's byte, if it has one and there is room, at `count`; gives back the count with it.
-fn put_byte(c: u8, out: &mut [u8; 12], count: usize) -> usize {
-    if 12 <= count {
+fn put_byte(c: u8, out: &mut [u8; MODEL], count: usize) -> usize {
+    if MODEL <= count {
         return count;
     }
     match c {

@@ -1,4 +1,4 @@
--- The fixed table of sets and parts, and the test that it passes. Assumes nothing: these are definitions.
+-- The fixed tables of sets and parts, and the test that each passes. Assumes nothing: these are definitions.
 use mathlib.Core.Path.{_≡_}
 use mathlib.Core.Bool.{Bool, true, false}
 use mathlib.Core.List.{List, [], _∷_}
@@ -10,16 +10,17 @@ use Rattle.logic.specs.Tests.{andb, pick}
 use Rattle.logic.specs.Book.{most}
 use Rattle.cells.specs.Cells.{full}
 
--- as many sets as there are over the locations, and as many pairs of a set and a part of it: "the 729 pairs"
-abbrev pub sets : ℕ
-sets = 2 ^ most
+-- as many sets as there are over n locations, and as many pairs of a set and a part of it: with eight "6,561 pairs with the same
+-- rule", and with six 729
+abbrev pub sets : ℕ → ℕ
+sets n = 2 ^ n
 
-abbrev pub pairs : ℕ
-pairs = 3 ^ most
+abbrev pub pairs : ℕ → ℕ
+pairs n = 3 ^ n
 
--- the table has for each set the place where its stretch begins, and then the pairs
-abbrev pub size : ℕ
-size = sets + pairs
+-- a table has for each set the place where its stretch begins, and then the pairs
+abbrev pub size : ℕ → ℕ
+size n = sets n + pairs n
 
 -- a pair is one number, 256 · set + part
 abbrev pub setOf : ℕ → ℕ
@@ -38,35 +39,45 @@ next x =
     pick (eqb (partOf x) (setOf x)) (pair (suc (setOf x)) 0) part
 
 -- each pair is the one after the one before it, and the last is all of the last set
-unfoldable pub follow : ℕ → List ℕ → Bool
-follow x [] = eqb x (pair (sets - 1) (sets - 1))
-follow x (y ∷ ys) = let r = follow y ys in andb (eqb y (next x)) r
+unfoldable pub follow : ℕ → ℕ → List ℕ → Bool
+follow n x [] = eqb x (pair (sets n - 1) (sets n - 1))
+follow n x (y ∷ ys) = let r = follow n y ys in andb (eqb y (next x)) r
 
 -- and the first is the empty part of the empty set
-unfoldable pub inOrder : List ℕ → Bool
-inOrder [] = false
-inOrder (x ∷ xs) = andb (eqb x 0) (follow x xs)
+unfoldable pub inOrder : ℕ → List ℕ → Bool
+inOrder n [] = false
+inOrder n (x ∷ xs) = andb (eqb x 0) (follow n x xs)
 
--- the stretches of the sets from a on begin at those places, where xs is what there is from place k on
-unfoldable pub begins : ℕ → ℕ → List ℕ → List ℕ → Bool
-begins a k [] xs = true
-begins a k (b ∷ bs) xs =
+-- the stretches of the sets from a on begin at those places, below z, where xs is what there is from place k on
+unfoldable pub begins : ℕ → ℕ → ℕ → List ℕ → List ℕ → Bool
+begins z a k [] xs = true
+begins z a k (b ∷ bs) xs =
     let ys = drop (b - k) xs in
-    let r = begins (suc a) b bs ys in
-    andb (leb k b) (andb (ltb b size) (andb (eqb (getD ys 0 0) (pair a 0)) r))
+    let r = begins z (suc a) b bs ys in
+    andb (leb k b) (andb (ltb b z) (andb (eqb (getD ys 0 0) (pair a 0)) r))
 
--- the test of the whole table
-pub record Listed (t : List ℕ) : Type 0 where
-  pub long : length t ≡ size
-  pub ordered : inOrder (drop sets t) ≡ true
-  pub begun : begins 0 sets (take sets t) (drop sets t) ≡ true
+-- the test of the whole table for n locations
+pub record Listed (n : ℕ) (t : List ℕ) : Type 0 where
+  pub long : length t ≡ size n
+  pub ordered : inOrder n (drop (sets n) t) ≡ true
+  pub begun : begins (size n) 0 (sets n) (take (sets n) t) (drop (sets n) t) ≡ true
+
+-- t is a table for l locations or more
+pub record Lists (l : ℕ) (t : List ℕ) : Type 0 where
+  pub locs : ℕ
+  pub enough : l ≤ locs
+  pub few : locs ≤ most
+  pub passed : Listed locs t
 
 -- the part at place i
 abbrev pub partAt : List ℕ → ℕ → ℕ
 partAt t i = partOf (getD t i 0)
 
--- place i is in the stretch of set a
+-- t is a table, and its place i is in the stretch of set a
 pub record Inside (t : List ℕ) (i a : ℕ) : Type 0 where
-  pub low : sets ≤ i
-  pub high : i < size
+  pub locs : ℕ
+  pub few : locs ≤ most
+  pub passed : Listed locs t
+  pub low : sets locs ≤ i
+  pub high : i < length t
   pub set : setOf (getD t i 0) ≡ a

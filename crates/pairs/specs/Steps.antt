@@ -3,7 +3,7 @@ use mathlib.Core.Path.{_≡_, sym, ap, subst, _∙_}
 use mathlib.Core.Bool.{Bool, true}
 use mathlib.Core.List.{List, [], _∷_}
 use Prim.Native.Nat.{ℕ, zero, suc, zero-le, _+_, _-_, _*_, _/_, _^_, _<_, _≤_}
-use native.Mathlib.Nat.{div-add-mod', mod-lt, le-of-suc-le-suc, not-suc-le-zero, le-trans, lt-of-le-of-lt, add-comm, add-mul-div-right}
+use native.Mathlib.Nat.{div-add-mod', mod-lt, le-of-suc-le-suc, not-suc-le-zero, le-trans, lt-of-le-of-lt, add-comm, add-mul-div-right, pow-le-pow-right}
 use native.Mathlib.Decide.{ℕ-discrete}
 use native.Mathlib.Omega.{arith}
 use lib.Arith.{digits-div, digits-mod}
@@ -13,10 +13,11 @@ use lib.ListN.{length, getD, drop}
 use lib.Seq.{getD-drop}
 use borrow.Author.Tests.{eqb-true, eq-eqb, ne-eqb, leb-true, ltb-true}
 use Rattle.logic.specs.Tests.{andb}
+use Rattle.logic.specs.Book.{most as mostListed}
 use Rattle.logic.specs.Reflect.{is-and, is-self}
 use Rattle.cells.specs.Cells.{most, full, Sub}
 use Rattle.cells.specs.Subsets.{next-above, next-least, and-sub}
-use Rattle.pairs.specs.Pairs.{sets, size, setOf, partOf, pair, next, follow, begins}
+use Rattle.pairs.specs.Pairs.{sets, setOf, partOf, pair, next, follow, begins}
 
 pub set-of : (a : ℕ) {m : ℕ} → m < full → setOf (pair a m) ≡ a
 set-of a l = digits-div a l
@@ -104,59 +105,71 @@ module _ (x : ℕ) (low : setOf x < full) where
 pub split : (a b : Bool) → andb a b ≡ true → (a ≡ true) × (b ≡ true)
 split a b e = is-and a b (is-self a) (is-self b) .to e
 
-pub follows : (x : ℕ) (xs : List ℕ) → follow x xs ≡ true → (k : ℕ) → k < length xs → getD xs k 0 ≡ next (getD (x ∷ xs) k 0)
-unfolding follow
-follows x [] t k h = absurd (not-suc-le-zero h)
-follows x (y ∷ ys) t zero h = eqb-true y (next x) (split (eqb y (next x)) (follow y ys) t .0)
-follows x (y ∷ ys) t (suc k) h = follows y ys (split (eqb y (next x)) (follow y ys) t .1) k (le-of-suc-le-suc h)
+-- a table for n locations has a set, and no more than there are
+pub some-sets : (n : ℕ) → 0 < sets n
+some-sets n = pow-le-pow-right {n = 2} (omega arith) zero-le
 
-pub ends : (x : ℕ) (xs : List ℕ) → follow x xs ≡ true → getD (x ∷ xs) (length xs) 0 ≡ pair (sets - 1) (sets - 1)
-unfolding follow
-ends x [] t = eqb-true x _ t
-ends x (y ∷ ys) t = ends y ys (split (eqb y (next x)) (follow y ys) t .1)
+pub few-sets : (n : ℕ) → n ≤ mostListed → sets n ≤ full
+few-sets n few = pow-le-pow-right {n = 2} (omega arith) few
 
-pub sets-low : (x : ℕ) (xs : List ℕ) → follow x xs ≡ true → (k : ℕ) → k ≤ length xs → setOf (getD (x ∷ xs) k 0) < sets
-unfolding follow
-sets-low x [] t zero h = rw (eqb-true x _ t) (omega arith)
-sets-low x [] t (suc k) h = absurd (not-suc-le-zero h)
-sets-low x (y ∷ ys) t zero h =
-    let q = split (eqb y (next x)) (follow y ys) t in
-    lt-of-le-of-lt (next-set x) (subst (λ (z : ℕ). setOf z < sets) (eqb-true y (next x) (q .0)) (sets-low y ys (q .1) 0 zero-le))
-sets-low x (y ∷ ys) t (suc k) h = sets-low y ys (split (eqb y (next x)) (follow y ys) t .1) k (le-of-suc-le-suc h)
+module _ (n : ℕ) where
+  pub follows : (x : ℕ) (xs : List ℕ) → follow n x xs ≡ true → (k : ℕ) → k < length xs → getD xs k 0 ≡ next (getD (x ∷ xs) k 0)
+  unfolding follow
+  follows x [] t k h = absurd (not-suc-le-zero h)
+  follows x (y ∷ ys) t zero h = eqb-true y (next x) (split (eqb y (next x)) (follow n y ys) t .0)
+  follows x (y ∷ ys) t (suc k) h = follows y ys (split (eqb y (next x)) (follow n y ys) t .1) k (le-of-suc-le-suc h)
+
+  pub ends : (x : ℕ) (xs : List ℕ) → follow n x xs ≡ true → getD (x ∷ xs) (length xs) 0 ≡ pair (sets n - 1) (sets n - 1)
+  unfolding follow
+  ends x [] t = eqb-true x _ t
+  ends x (y ∷ ys) t = ends y ys (split (eqb y (next x)) (follow n y ys) t .1)
+
+  -- the number of the last set, which is its greatest part too
+  pub last-low : n ≤ mostListed → sets n - 1 < full
+  last-low few = omega (arith, few-sets n few, some-sets n)
+
+  pub sets-low : n ≤ mostListed → (x : ℕ) (xs : List ℕ) → follow n x xs ≡ true → (k : ℕ) → k ≤ length xs → setOf (getD (x ∷ xs) k 0) < sets n
+  unfolding follow
+  sets-low few x [] t zero h = rw (eqb-true x _ t, set-of (sets n - 1) (last-low few)) (omega (arith, some-sets n))
+  sets-low few x [] t (suc k) h = absurd (not-suc-le-zero h)
+  sets-low few x (y ∷ ys) t zero h =
+      let q = split (eqb y (next x)) (follow n y ys) t in
+      lt-of-le-of-lt (next-set x) (subst (λ (z : ℕ). setOf z < sets n) (eqb-true y (next x) (q .0)) (sets-low few y ys (q .1) 0 zero-le))
+  sets-low few x (y ∷ ys) t (suc k) h = sets-low few y ys (split (eqb y (next x)) (follow n y ys) t .1) k (le-of-suc-le-suc h)
 
 -- ---- where the stretches begin
-pub record Begun (a k : ℕ) (bs xs : List ℕ) (i : ℕ) : Type 0 where
+pub record Begun (z a k : ℕ) (bs xs : List ℕ) (i : ℕ) : Type 0 where
   pub low : k ≤ getD bs i 0
-  pub high : getD bs i 0 < size
+  pub high : getD bs i 0 < z
   pub is : getD xs (getD bs i 0 - k) 0 ≡ pair (a + i) 0
 
-module _ (a k b : ℕ) (bs xs : List ℕ) where
+module _ (z a k b : ℕ) (bs xs : List ℕ) where
   abbrev rest : Bool
-  rest = begins (suc a) b bs (drop (b - k) xs)
+  rest = begins z (suc a) b bs (drop (b - k) xs)
 
   abbrev first : Bool
   first = eqb (getD (drop (b - k) xs) 0 0) (pair a 0)
 
-  parts : begins a k (b ∷ bs) xs ≡ true → (k ≤ b) × (b < size) × (getD (drop (b - k) xs) 0 0 ≡ pair a 0) × (rest ≡ true)
+  parts : begins z a k (b ∷ bs) xs ≡ true → (k ≤ b) × (b < z) × (getD (drop (b - k) xs) 0 0 ≡ pair a 0) × (rest ≡ true)
   unfolding begins
   parts t =
-      let q = split (leb k b) (andb (ltb b size) (andb first rest)) t in
-      let r = split (ltb b size) (andb first rest) (q .1) in
+      let q = split (leb k b) (andb (ltb b z) (andb first rest)) t in
+      let r = split (ltb b z) (andb first rest) (q .1) in
       let s = split first rest (r .1) in
-      (leb-true k b (q .0), ltb-true b size (r .0), eqb-true _ _ (s .0), s .1)
+      (leb-true k b (q .0), ltb-true b z (r .0), eqb-true _ _ (s .0), s .1)
 
-pub begun : (a k : ℕ) (bs xs : List ℕ) → begins a k bs xs ≡ true → (i : ℕ) → i < length bs → Begun a k bs xs i
-begun a k [] xs t i h = absurd (not-suc-le-zero h)
-begun a k (b ∷ bs) xs t zero h =
-    let q = parts a k b bs xs t in
+pub begun : (z a k : ℕ) (bs xs : List ℕ) → begins z a k bs xs ≡ true → (i : ℕ) → i < length bs → Begun z a k bs xs i
+begun z a k [] xs t i h = absurd (not-suc-le-zero h)
+begun z a k (b ∷ bs) xs t zero h =
+    let q = parts z a k b bs xs t in
     record {
       low = q .0;
       high = q .1;
       is = ap (λ (j : ℕ). getD xs j 0) (omega arith) ∙ sym (getD-drop (b - k) xs 0 0) ∙ q .2 ∙ ap (λ (j : ℕ). pair j 0) (omega arith);
     }
-begun a k (b ∷ bs) xs t (suc i) h =
-    let q = parts a k b bs xs t in
-    let n = begun (suc a) b bs (drop (b - k) xs) (q .3) i (le-of-suc-le-suc h) in
+begun z a k (b ∷ bs) xs t (suc i) h =
+    let q = parts z a k b bs xs t in
+    let n = begun z (suc a) b bs (drop (b - k) xs) (q .3) i (le-of-suc-le-suc h) in
     let e : getD bs i 0 - k ≡ b - k + (getD bs i 0 - b) = omega (arith, n .low, q .0) in
     record {
       low = le-trans (q .0) (n .low);

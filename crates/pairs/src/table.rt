@@ -1,7 +1,7 @@
 // The table itself: where the stretch of each set begins, and then the pairs.
-use crate::Pairs;
+use crate::Few;
 
-pub const PAIRS: Pairs = [
+pub const PAIRS: Few = [
     64,
     65,
     67,

@@ -1,7 +1,7 @@
 // What the program prints for a book, as bytes.
 use book::open;
 use lines::put_lines;
-use logic::MOST;
+use logic::MODEL;
 use logic::Profile;
 use search::search;
 ghost use Rattle.print.specs.Prints.{PutsPrinted};
@@ -11,7 +11,7 @@ ghost use Rattle.print.specs.Prints.{PutsPrinted};
 pub fn put_printed(book: &[u8], out: &mut [u8; 256]) -> usize
     ensures { λ r. ⌜ PutsPrinted (now (book .entry)) (now (out .entry)) r (now (out .exit)) ⌝ }
 {
-    let mut model = [0u8; 2 * MOST];
+    let mut model = [0u8; MODEL];
     let answer = search(Profile::Strong, book, 1000000, &mut model);
     let bounds = open(book);
     put_lines(answer, &model, bounds.v as usize, bounds.n as usize, out)

@@ -12,7 +12,7 @@ use Rattle.logic.specs.Numbers.{not-encodable, assignment-length, assignment-va
 use Rattle.logic.specs.Checks.{Checks, done, check, _then_, upto, Answers}
 use Rattle.logic.specs.Heap.{Map}
 use Rattle.logic.specs.Tests.{andb, pick, inPart}
-use Rattle.logic.specs.Book.{bookFormula, bookChecks, varsOf, locsOf}
+use Rattle.logic.specs.Book.{most, bookFormula, bookChecksWithin, varsOf, locsOf}
 use Rattle.logic.specs.Model.{stackIn, Verdict}
 use Rattle.rows.specs.Assignment.{Assignment, Set}
 use Rattle.rows.specs.Meaning.{Satisfies}
@@ -59,9 +59,15 @@ assignRest s q =
     check (Encodable (bookFormula s)) not-encodable 0 (assignmentChecks (varsOf s) (locsOf s) (arrays (bookFormula s)) (sets (bookFormula s)) q)
 
 -- "Order: 10 to 13; then nodes upwards, ..; 16; then .."
+abbrev pub assignChecksWithin : ℕ → List ℕ → List ℕ → Checks
+assignChecksWithin k s q = bookChecksWithin k s then assignRest s q
+
 abbrev pub assignChecks : List ℕ → List ℕ → Checks
-assignChecks s q = bookChecks s then assignRest s q
+assignChecks s q = assignChecksWithin most s q
 
 -- what the judge of assignments gives back for the book s and the assignment q: "0: fits"; "1: doesn't fit"
+abbrev pub AssignsWithin : ℕ → Profile → List ℕ → List ℕ → Answer → Type 0
+AssignsWithin k π s q a = Answers (assignChecksWithin k s q) (Verdict (SatisfiesBook π s q)) a
+
 unfoldable pub Assigns : Profile → List ℕ → List ℕ → Answer → Type 0
-Assigns π s q a = Answers (assignChecks s q) (Verdict (SatisfiesBook π s q)) a
+Assigns π s q a = AssignsWithin most π s q a

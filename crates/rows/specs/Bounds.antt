@@ -5,12 +5,12 @@ use Rattle.logic.specs.declared.Profile.{Profile}
 use Rattle.logic.specs.Tests.{pick}
 use Rattle.rows.specs.Table.{apartRows}
 
--- "The most is then 636 rows, 6,374 bytes"
+-- "the encoding at most 764 rows and 7,654 bytes"
 abbrev pub mostRows : ℕ
-mostRows = 636
+mostRows = 764
 
 abbrev pub mostBytes : ℕ
-mostBytes = 6374
+mostBytes = 7654
 
 -- "The judge has up to 32 arrays"
 abbrev pub mostArrays : ℕ

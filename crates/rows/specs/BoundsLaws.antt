@@ -1,4 +1,4 @@
--- The table of an accepted book has at most 636 rows, 32 arrays and 63 sets. Assumes nothing.
+-- The table of an accepted book has at most 764 rows, 32 arrays and 63 sets. Assumes nothing.
 use mathlib.Core.Path.{_≡_, refl}
 use mathlib.Core.List.{List}
 use Prim.Native.Nat.{ℕ, suc, _+_, _*_, _<_, _≤_}

@@ -3,10 +3,11 @@
 //
 // For a fixed stack it works out, node after node from the first, the set of all heaps that fit the node: an atom's heaps are
 // looked at one by one, a connective's come from its children's sets. No heap is taken apart, and of the bench only the cast
-// `wide` and the number of nodes are used. Stacks and heaps are numbers, a digit for each variable (base n + 1) or location
+// `wide`, the number of nodes and the length of a model are used. Stacks and heaps are numbers, a digit for each variable (base n + 1) or location
 // (base n + 2); two strongly disjoint heaps together have the sum of their numbers. Three variables and three locations at the
 // most.
 use leaves::wide;
+use logic::MODEL;
 use logic::NODES;
 ghost use Prim.Native.Nat.{_≤_};
 
@@ -383,10 +384,10 @@ fn model_byte(v: u8, n: u8, w: World, h: u8, i: u8) -> u8 {
 }
 
 // The model with this stack and heap, its bytes at the front.
-pub fn model_of(v: u8, n: u8, w: World, h: u8) -> [u8; 12] {
-    let mut model = [0u8; 12];
-    for i in 0..12 {
-        model[wide(i)] = model_byte(v, n, w, h, i);
+pub fn model_of(v: u8, n: u8, w: World, h: u8) -> [u8; MODEL] {
+    let mut model = [0u8; MODEL];
+    for i in 0..MODEL {
+        model[i] = model_byte(v, n, w, h, i as u8);
     }
     model
 }

@@ -48,8 +48,8 @@ rows =
     ∷ writing 3 3 3 meet (bytes "(sep (not (and (= sep.nil sep.nil) sep.emp)) (not (and (= sep.nil sep.nil) sep.emp)))")
     -- P10's x ↦ x * (x ↦ nil −⊛ x ↦ nil)
     ∷ writing 1 1 1 (3 ∷ 1 ∷ 1 ∷ 3 ∷ 1 ∷ 0 ∷ 3 ∷ 1 ∷ 0 ∷ 10 ∷ 1 ∷ 2 ∷ 9 ∷ 0 ∷ 3 ∷ []) (bytes "(sep (pto v1 v1) (not (wand (pto v1 sep.nil) (not (pto v1 sep.nil)))))")
-    -- (v5 = v6 ∨ v1 ↦ v2) ∧ (v3 ↦ v4 and not ls(v6,v5))
-    ∷ writing 6 6 6 (1 ∷ 5 ∷ 6 ∷ 3 ∷ 1 ∷ 2 ∷ 6 ∷ 0 ∷ 1 ∷ 3 ∷ 3 ∷ 4 ∷ 4 ∷ 6 ∷ 5 ∷ 7 ∷ 3 ∷ 4 ∷ 5 ∷ 2 ∷ 5 ∷ []) (bytes "(and (or (and (= v5 v6) sep.emp) (pto v1 v2)) (and (pto v3 v4) (not (ls v6 v5))))")
+    -- (v7 = v8 ∨ v1 ↦ v2) ∧ (v3 ↦ v4 and not ls(v8,v7))
+    ∷ writing 8 8 8 (1 ∷ 7 ∷ 8 ∷ 3 ∷ 1 ∷ 2 ∷ 6 ∷ 0 ∷ 1 ∷ 3 ∷ 3 ∷ 4 ∷ 4 ∷ 8 ∷ 7 ∷ 7 ∷ 3 ∷ 4 ∷ 5 ∷ 2 ∷ 5 ∷ []) (bytes "(and (or (and (= v7 v8) sep.emp) (pto v1 v2)) (and (pto v3 v4) (not (ls v8 v7))))")
     ∷ []
 
 -- every result that the export's statement allows, with room and without, is the example's

@@ -8,9 +8,9 @@ use lib.ListN.{length, length-append}
 use Rattle.logic.specs.Book.{most, mostNodes}
 use Rattle.grammar.specs.Phrase.{Phrase, name-term}
 use Rattle.grammar.specs.Grammar.{Event, named, finished, Means}
-use Rattle.grammar.specs.Places.{Finished, all-of-it, known, note, PassesAt, SeventhAt, Complaint, bad-at, passes-at, seventh-at}
+use Rattle.grammar.specs.Places.{Finished, all-of-it, known, note, PassesAt, NameOverAt, Complaint, bad-at, passes-at, name-over-at}
 use Rattle.grammar.specs.Places.PassesAt.{passing, past-item, past-name}
-use Rattle.grammar.specs.Places.SeventhAt.{seventh, after-name, after-item}
+use Rattle.grammar.specs.Places.NameOverAt.{one-over, after-name, after-item}
 use Rattle.grammar.specs.Outcome.{nodesFrom, namesFrom}
 use Rattle.grammar.specs.PlaceLaws.{finished-events}
 use Rattle.grammar.specs.Listing.{sizeOf}
@@ -43,11 +43,11 @@ names-grow ns (finished q m ∷ es) = names-grow ns es
 note-new : (ns : List (List ℕ)) (x : List ℕ) → known ns x ≡ false → length (note ns x) ≡ length ns + 1
 note-new ns x e = rw e (length-append ns (x ∷ []))
 
-seventh-many : (ns : List (List ℕ)) (es : List Event) (q : ℕ) → SeventhAt ns es q → most < length (namesFrom ns es)
+over-many : (ns : List (List ℕ)) (es : List Event) (q : ℕ) → NameOverAt most ns es q → most < length (namesFrom ns es)
 unfolding namesFrom
-seventh-many ns (named x i j ∷ es) q (seventh a b) = omega (arith, b, note-new ns x a, names-grow (note ns x) es)
-seventh-many ns (named x i j ∷ es) q (after-name r) = seventh-many (note ns x) es q r
-seventh-many ns (finished p m ∷ es) q (after-item r) = seventh-many ns es q r
+over-many ns (named x i j ∷ es) q (one-over a b) = omega (arith, b, note-new ns x a, names-grow (note ns x) es)
+over-many ns (named x i j ∷ es) q (after-name r) = over-many (note ns x) es q r
+over-many ns (finished p m ∷ es) q (after-item r) = over-many ns es q r
 
 pub within-limits : (s : List ℕ) (F : Phrase) (es : List Event) → Means s F es → sizeOf (meaning F) ≤ mostNodes → length (namesOf F) ≤ most → Good s F
 within-limits s F es m few-nodes few-names = record { events = es; means = m; none = none }
@@ -60,6 +60,6 @@ within-limits s F es m few-nodes few-names = record { events = es; means = m; no
     none k q (passes-at fs r f h) =
         let l = passes-many 0 es q (subst (λ (x : List Event). PassesAt 0 x q) (only fs f) h) in
         omega (arith, l, few-nodes, nodes-reads s (numberOf (namesOf F)) 0 (m .body))
-    none k q (seventh-at fs r f h) =
-        let l = seventh-many [] es q (subst (λ (x : List Event). SeventhAt [] x q) (only fs f) h) in
+    none k q (name-over-at fs r f h) =
+        let l = over-many [] es q (subst (λ (x : List Event). NameOverAt most [] x q) (only fs f) h) in
         omega (arith, l, few-names, ap length (names-reads s [] (m .body)))

@@ -33,7 +33,7 @@ form-terms v (neg a) w = form-terms v a w
 form-terms v (sep a b) w = (form-terms v a (w .0), form-terms v b (w .1))
 form-terms v (sept a b) w = (form-terms v a (w .0), form-terms v b (w .1))
 
--- the figures 1 to 6 may stand in a name
+-- the figures 1 to 8 may stand in a name
 figure-letter : (i : ℕ) → suc i ≤ most → letter (figureOf i) ≡ true
 figure-letter i l = rw (lt-leb (code "a") (figureOf i) (omega arith), le-leb (code "0") (figureOf i) (omega arith), le-leb (figureOf i) (code "9") (omega arith))
 

@@ -9,12 +9,12 @@ use Rattle.logic.specs.Numbers.{answer, yes-number, output-length}
 use Rattle.logic.specs.Checks.{Checks, done, check, _then_, Answers}
 use Rattle.logic.specs.Formula.{Form}
 use Rattle.logic.specs.Formula.Form.{same, diff, pts, ls, conj, disj, but, neg, sep, sept}
-use Rattle.logic.specs.Book.{bookChecks, bookFormula}
+use Rattle.logic.specs.Book.{most, bookChecksWithin, bookFormula}
 use Rattle.grammar.specs.Phrase.{Word, joins, denies, relates, Term, nil-term, name-term, Phrase, emp, join, deny, relate, spelling, sep-emp, sep-nil}
 use Rattle.grammar.specs.Phrase.Join.{and-word, or-word, sep-word, wand-word}
 use Rattle.grammar.specs.Phrase.Atom.{equal-word, distinct-word, pto-word, ls-word}
 
--- "variables as `v1` to `v6`": the figure and the name of variable i + 1
+-- "`v1` to `v8` are written": the figure and the name of variable i + 1
 abbrev pub figureOf : ℕ → ℕ
 figureOf i = code "1" + i
 
@@ -76,15 +76,21 @@ textOf s = write (phraseOf (bookFormula s))
 abbrev pub exportRest : List ℕ → List ℕ → Checks
 exportRest s o = check (length (textOf s) ≤ length o) output-length 0 done
 
+abbrev pub exportChecksWithin : ℕ → List ℕ → List ℕ → Checks
+exportChecksWithin k s o = bookChecksWithin k s then exportRest s o
+
 abbrev pub exportChecks : List ℕ → List ℕ → Checks
-exportChecks s o = bookChecks s then exportRest s o
+exportChecks s o = exportChecksWithin most s o
 
 -- what the export of the book s gives back, and the output that it leaves: "Output bytes change only with number 0, only at the
 -- front, and only as many as are written."
-pub record Exports (s o : List ℕ) (a : Answer) (o′ : List ℕ) : Type 0 where
-  pub answer : Answers (exportChecks s o) (λ r. r ≡ answer yes-number 0) a
+pub record ExportsWithin (k : ℕ) (s o : List ℕ) (a : Answer) (o′ : List ℕ) : Type 0 where
+  pub answer : Answers (exportChecksWithin k s o) (λ r. r ≡ answer yes-number 0) a
   pub wrote : a .number ≡ yes-number → o′ ≡ textOf s ++ drop (length (textOf s)) o
   pub kept : ¬ (a .number ≡ yes-number) → o′ ≡ o
+
+abbrev pub Exports : List ℕ → List ℕ → Answer → List ℕ → Type 0
+Exports s o a o′ = ExportsWithin most s o a o′
 
 -- An answer has no length: who cleared the output finds the text in it up to the first 0
 unfoldable pub uptoZero : List ℕ → List ℕ

@@ -8,7 +8,8 @@
 use std::hint::black_box;
 use std::time::Instant;
 
-use cases::made::book;
+use cases::made::{book, nested};
+use hollyspool::{Bounds, MOST_MODEL};
 
 mod profiles;
 mod stack;
@@ -53,8 +54,7 @@ const FORMULAS: [(&str, &[[u8; 3]]); 4] = [
     ),
 ];
 
-/// The deepest nestings that a book has room for: the nesting is on the a side, which no call can end with. Every
-/// judgement holds at the first part or the first added heap, so that each level is entered once.
+/// The operators whose deepest nesting is measured.
 const NESTED: [(&str, u8); 3] = [("¬", 8), ("*", 9), ("−⊛", 10)];
 
 /// The variables and the budget of each search: eight budgets are below T, and the formula with a septraction is the last.
@@ -248,29 +248,15 @@ fn search_time(book: &[u8], budget: u64, search: impl Fn(&[u8], u64, &mut [u8]) 
 fn depths() {
     println!("deepest nesting of an operator, bytes of stack (at most 65536 allowed)");
     for (name, operator) in NESTED {
-        let book = nested(operator);
-        let model = [0, 0, 0, 0, 0, 0, 255, 255, 255, 255, 255, 255];
+        let book = book([Bounds::MOST; 3], &nested(operator));
+        let mut model = [0; MOST_MODEL];
+        model[MOST_MODEL / 2..].fill(255);
         let mut number = 2;
         let depth = stack::depth(&mut || number = hollyspool::judge(&book, &model).number);
         assert!(number < 2, "{name}: a book that is refused goes nowhere");
         assert!(depth <= 65536, "{name} takes {depth} bytes");
         println!("{name:<34} {depth:>12}");
     }
-}
-
-/// A book of as many nodes as fit, one operator nested in itself over nil = nil.
-fn nested(operator: u8) -> Vec<u8> {
-    let mut nodes = vec![[1, 0, 0]];
-    while nodes.len() + 2 <= 64 {
-        let below = nodes.len() as u8 - 1;
-        if operator == 8 {
-            nodes.push([8, below, 0]);
-        } else {
-            nodes.push([1, 0, 0]);
-            nodes.push([operator, below, below + 1]);
-        }
-    }
-    book(BOUNDS, &nodes)
 }
 
 /// Models judged a second by the proved and by the second judge.

@@ -3,10 +3,10 @@
 use std::hint::black_box;
 use std::time::Instant;
 
-use cases::made::book;
-use hollyspool::MOST_TEXT;
+use cases::made::{book, nested};
+use hollyspool::{Bounds, MOST_TEXT};
 
-use crate::{largest, nested, stack, BOUNDS, FORMULAS, NESTED};
+use crate::{largest, stack, BOUNDS, FORMULAS, NESTED};
 
 /// Of so many runs the fastest counts.
 const RUNS: usize = 99;
@@ -66,7 +66,7 @@ pub fn depths() {
         "a book written, deepest nesting of an operator, bytes of stack (at most 65536 allowed)"
     );
     for (name, operator) in NESTED {
-        let book = nested(operator);
+        let book = book([Bounds::MOST; 3], &nested(operator));
         let mut out = [0; MOST_TEXT];
         let mut number = 2;
         let depth = stack::depth(&mut || number = hollyspool::export(&book, &mut out).number);

@@ -49,7 +49,8 @@ pub fn name_all(random: &mut Random, nodes: &mut [[u8; 3]], v: u8) -> u8 {
     v
 }
 
-fn children(operator: u8) -> usize {
+/// How many of an operator's operands are nodes.
+pub fn children(operator: u8) -> usize {
     match operator {
         1..=4 => 0,
         8 => 1,
@@ -81,29 +82,17 @@ pub fn small(v: u8) -> Vec<Vec<[u8; 3]>> {
     trees
 }
 
-/// Turns operators 9 and 10 into 5 and 6 where a plain judge might visit more than `most` nodes
-/// below one of them, over n locations. Gives the visits that the root may then take.
-pub fn tame(nodes: &mut [[u8; 3]], n: u8, most: u64) -> u64 {
-    let heaps = (u64::from(n) + 2).pow(n.into());
-    let mut visits: Vec<u64> = Vec::new();
-    for node in nodes {
-        let [operator, a, b] = *node;
-        let below = match children(operator) {
-            0 => 0,
-            1 => visits[usize::from(a)],
-            _ => visits[usize::from(a)] + visits[usize::from(b)],
-        };
-        let times = match operator {
-            9 => 1 << n,
-            10 => heaps,
-            _ => 1,
-        };
-        if times > 1 && below * times > most {
-            node[0] -= 4;
-            visits.push(1 + below);
-        } else {
-            visits.push(1 + below * times);
+/// The deepest tree of 64 nodes: one operator nested in itself over nil = nil, on the a side, which no call
+/// can end with. Every judgement on the empty heap holds at the first part or the first added heap, so that
+/// each level is entered once.
+pub fn nested(operator: u8) -> Vec<[u8; 3]> {
+    let mut nodes = vec![[1, 0, 0]];
+    while nodes.len() + children(operator) <= 64 {
+        let below = nodes.len() as u8 - 1;
+        match children(operator) {
+            1 => nodes.push([operator, below, 0]),
+            _ => nodes.extend([[1, 0, 0], [operator, below, below + 1]]),
         }
     }
-    visits.pop().expect("a tree has a root")
+    nodes
 }

@@ -1,5 +1,6 @@
 //! Books: any bytes, made ones, those of the case files, and damaged ones of both.
 
+use cases::cost::{self, Sizes};
 use cases::line::{self, Call};
 use cases::made::{self, name_all, tree};
 use cases::random::Random;
@@ -75,7 +76,8 @@ fn made(random: &mut Random) -> Vec<u8> {
 /// A book that is accepted, with few names and an operator 9 or 10 over two negations, at times under a
 /// third.
 fn separated(random: &mut Random) -> Vec<u8> {
-    let (most, n) = (random.one_of(&[0, 0, 1, 2]), 2 + random.up_to(1));
+    let most = random.one_of(&[0, 0, 1, 2]);
+    let n = random.one_of(&[2, 3, 3, MOST as u8]);
     let mut nodes: Vec<[u8; 3]> = Vec::new();
     let sides = [(); 2].map(|()| {
         let (from, count) = (nodes.len() as u8, 1 + random.below(4));
@@ -119,14 +121,14 @@ fn restate(book: &mut [u8]) {
     }
 }
 
-/// Takes the most costly operators out of an accepted book, and gives the visits that its root may
-/// then cost; 0 for a book that is refused.
-pub fn tame(book: &mut [u8]) -> u64 {
+/// Takes the operators that are most costly on heaps of these sizes out of an accepted book, and gives
+/// the visits that its root may then cost; 0 for a book that is refused.
+pub fn tame(book: &mut [u8], sizes: Sizes) -> u64 {
     let Ok(accepted) = Book::accept(book) else {
         return 0;
     };
     let mut nodes = accepted.nodes.to_vec();
-    let visits = made::tame(&mut nodes, accepted.bounds.n as u8, VISITS);
+    let visits = cost::tame(&mut nodes, accepted.bounds.n as u8, sizes, VISITS);
     book[CONTENTS + BOUNDS..].copy_from_slice(nodes.as_flattened());
     visits
 }

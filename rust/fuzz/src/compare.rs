@@ -1,7 +1,7 @@
 //! Every call on one input, both benches, in both profiles.
 
-use cases::renumber;
-use hollyspool::{Answer, Profile};
+use cases::{cost, renumber};
+use hollyspool::{Answer, Profile, MOST_MODEL};
 use second::book::Book;
 use second::model::Model;
 use second::profile::Profile as Second;
@@ -194,7 +194,8 @@ fn read_back(
     models: &[(Profile, Vec<u8>)],
     tally: &mut Tally,
 ) -> Result<(), String> {
-    let back = match round_trip(book, &input.book)? {
+    let sizes = cost::sizes(book.bounds.v, models.iter().map(|(_, model)| model));
+    let back = match round_trip(book, &input.book, sizes)? {
         Reading::Whole(back) => back,
         Reading::NotCompared => {
             tally.read_back += 1;
@@ -231,7 +232,7 @@ fn import_cut(text: &Text, length: usize, tally: &mut Tally) -> Result<(), Strin
     let length = stated(second.out());
     outputs(Call::Import, imported, length, &mut proved, &mut second).map_err(of_length)?;
     if imported.number == 0 {
-        let searched = hollyspool::search(&proved.out()[..length], 0, &mut [0; 12]);
+        let searched = hollyspool::search(&proved.out()[..length], 0, &mut [0; MOST_MODEL]);
         if searched.number != 2 {
             return Err(of_length(format!("the imported book gives {searched:?}")));
         }

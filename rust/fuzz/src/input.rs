@@ -2,11 +2,13 @@
 
 use std::fmt;
 
+use cases::cost::{any_size, sizes};
 use cases::random::Random;
 use cases::renumber::renumbering;
 use hollyspool::MOST_TEXT;
 use second::book::{Book, Bounds, BOUNDS, CONTENTS, LONGEST, MOST};
 use second::candidate::count;
+use second::model::Model;
 use second::profile::Profile;
 use second::rows::Table;
 use second::write;
@@ -96,9 +98,18 @@ impl Text {
 impl Input {
     pub fn random(random: &mut Random, books: &Books, texts: &Texts) -> Input {
         let mut book = books.any(random);
-        let visits = tame(&mut book);
+        let bounds = Book::accept(&book).map(|book| book.bounds);
+        let bounds = bounds.unwrap_or_else(|_| any_bounds(random));
+        let model = model(random, bounds);
+        // A search begins with the empty heap. Where there is none, what is costly on other heaps than
+        // the model's stays in the book.
+        let searched = random.below(6) > 0 || Model::accept(bounds, &model).is_err();
+        let sizes = match searched {
+            true => any_size(bounds.n as u8),
+            false => sizes(bounds.v, [&model]),
+        };
+        let visits = tame(&mut book, sizes);
         let accepted = Book::accept(&book).ok();
-        let bounds = accepted.map_or_else(|| any_bounds(random), |book| book.bounds);
         let length = accepted.map_or(MOST_TEXT, |book| write::text(&book).len());
         // The arrays and sets are the same in both profiles, the rows are not.
         let profile = random.one_of(&Profile::ALL);
@@ -107,15 +118,18 @@ impl Input {
             (table.arrays.into(), table.sets.into(), table.rows.len())
         });
         Input {
-            model: model(random, bounds),
             renumbering: renumbering(random, bounds.n as u8),
             assignment: assignment(random, bounds, arrays, sets),
             entry: random.one_of(&[0, 1, 2, 255, 256, u64::MAX]),
-            budget: budget(random, count(bounds), visits),
+            budget: match searched {
+                true => budget(random, count(bounds), visits),
+                false => 0,
+            },
             model_room: room(random, bounds.v + bounds.n),
             encoding_room: room(random, 14 + 10 * rows),
             text_room: room(random, length),
             text: Text::random(random, texts),
+            model,
             book,
         }
     }

@@ -1,6 +1,6 @@
 //! A book, written as a text, and that text read back.
 
-use cases::made::tame;
+use cases::cost::{visits, Sizes};
 use hollyspool::{export, import, judge_in, Profile, MOST_BOOK, MOST_TEXT};
 use second::book::{Book, BOUNDS, CONTENTS, MOST_NODES};
 
@@ -28,8 +28,9 @@ pub enum Reading {
     Refused,
 }
 
-/// Writes an accepted book and reads the text back, or says what is wrong.
-pub fn round_trip(book: &Book, bytes: &[u8]) -> Result<Reading, String> {
+/// Writes an accepted book and reads the text back, to be judged on heaps of these sizes, or says what is
+/// wrong.
+pub fn round_trip(book: &Book, bytes: &[u8], sizes: Sizes) -> Result<Reading, String> {
     let mut out = [0; MOST_TEXT];
     let answer = export(bytes, &mut out);
     if answer.number != 0 {
@@ -60,8 +61,8 @@ pub fn round_trip(book: &Book, bytes: &[u8]) -> Result<Reading, String> {
     if usize::from(back[CONTENTS]) != order.len() {
         return Err(format!("read back, it has {} variables", back[CONTENTS]));
     }
-    let mut table = back[CONTENTS + BOUNDS..].as_chunks().0.to_vec();
-    let compared = order.len() == book.bounds.v && tame(&mut table, n as u8, u64::MAX) <= VISITS;
+    let table = back[CONTENTS + BOUNDS..].as_chunks().0;
+    let compared = order.len() == book.bounds.v && visits(table, n as u8, sizes) <= VISITS;
     Ok(match compared {
         true => Reading::Whole(Back { book: back, order }),
         false => Reading::NotCompared,

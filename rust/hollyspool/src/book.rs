@@ -26,7 +26,7 @@ pub struct Book {
 /// Why a formula and bounds make no book.
 #[derive(Clone, Copy, Debug, PartialEq, Eq)]
 pub enum Unwritable {
-    /// One of v, n and p is over 6.
+    /// One of v, n and p is over 8.
     Bound {
         /// The bound's name.
         name: char,

@@ -1,6 +1,6 @@
 //! The bounds of a book.
 
-/// How many variables and locations there are, and the path bound; each 0 to 6.
+/// How many variables and locations there are, and the path bound; each 0 to 8.
 #[derive(Clone, Copy, Debug, PartialEq, Eq)]
 pub struct Bounds {
     /// Variables are 1 to v; variable 0 is nil.
@@ -13,13 +13,13 @@ pub struct Bounds {
 
 impl Bounds {
     /// The largest value of each bound.
-    pub const MOST: u8 = 6;
+    pub const MOST: u8 = 8;
 
     /// T, the number of candidates: (n+1)^v × (n+2)^n.
     ///
     /// ```
-    /// let bounds = hollyspool::Bounds { v: 6, n: 6, p: 6 };
-    /// assert_eq!(bounds.candidates(), 30_840_979_456);
+    /// let bounds = hollyspool::Bounds { v: 8, n: 8, p: 8 };
+    /// assert_eq!(bounds.candidates(), 4_304_672_100_000_000);
     /// ```
     pub fn candidates(self) -> u64 {
         let n = u64::from(self.n);

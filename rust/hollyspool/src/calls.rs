@@ -2,11 +2,15 @@
 //! any bytes.
 
 use crate::answer::Answer;
+use crate::bounds::Bounds;
 use crate::ffi;
 use crate::profile::Profile;
 
+/// The most bytes that a model has; an output of this length is never too short for a search.
+pub const MOST_MODEL: usize = 2 * Bounds::MOST as usize;
+
 /// The most bytes that an encoding has; an output of this length is never too short for one.
-pub const MOST_ENCODED: usize = 6374;
+pub const MOST_ENCODED: usize = 7654;
 
 /// The most bytes that a book has; an output of this length is never too short for an import.
 pub const MOST_BOOK: usize = 206;

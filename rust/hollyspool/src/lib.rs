@@ -41,7 +41,7 @@ pub use book::{Book, Unwritable, MOST_NODES};
 pub use bounds::Bounds;
 pub use calls::{
     assign, assign_in, body, encode, encode_in, export, import, judge, judge_in, read, search,
-    search_in, MOST_BOOK, MOST_ENCODED, MOST_TEXT,
+    search_in, MOST_BOOK, MOST_ENCODED, MOST_MODEL, MOST_TEXT,
 };
 pub use formula::{Formula, NIL};
 pub use model::Model;

@@ -4,6 +4,7 @@ use std::error::Error;
 use std::fmt;
 
 use crate::answer::Answer;
+use crate::bounds::Bounds;
 
 /// Why a call refused its input, with the entry, node, byte or variable that the answer's place
 /// names.
@@ -21,7 +22,7 @@ pub enum Refusal {
     BookLength,
     /// 11: contents of other than two entries.
     Contents,
-    /// 12: a bounds body of other than 3 bytes, or a bound over 6.
+    /// 12: a bounds body of other than 3 bytes, or a bound over 8.
     Bounds,
     /// 13: a formula that is empty or no multiple of 3 bytes.
     Formula,
@@ -84,7 +85,7 @@ pub enum Refusal {
         /// The last byte of the item that passes 64.
         byte: u64,
     },
-    /// 28: a text with a seventh name.
+    /// 28: a text with a ninth name.
     ManyNames {
         /// Its first byte.
         byte: u64,
@@ -150,7 +151,11 @@ impl fmt::Display for Refusal {
         match self {
             Refusal::BookLength => write!(f, "the book is under 11 or over 206 bytes"),
             Refusal::Contents => write!(f, "the number of entries is not 2"),
-            Refusal::Bounds => write!(f, "a bound is over 6, or the bounds are not three bytes"),
+            Refusal::Bounds => write!(
+                f,
+                "a bound is over {}, or the bounds are not three bytes",
+                Bounds::MOST
+            ),
             Refusal::Formula => write!(f, "the formula is empty or no multiple of 3 bytes"),
             Refusal::Operator { node } => {
                 write!(f, "the operator of node {node} is not 1 to 10")
@@ -200,7 +205,7 @@ impl fmt::Display for Refusal {
             Refusal::ManyNames { byte } => {
                 write!(
                     f,
-                    "a seventh name begins at byte {byte}; a text has at most six"
+                    "a ninth name begins at byte {byte}; a text has at most eight"
                 )
             }
         }

@@ -3,6 +3,8 @@
 
 use std::process::Command;
 
+use hollyspool::{MOST_BOOK, MOST_ENCODED, MOST_MODEL, MOST_TEXT};
+
 const C: &str = concat!(env!("CARGO_MANIFEST_DIR"), "/../../exports");
 const ARCHIVE: &str = concat!(
     env!("CARGO_MANIFEST_DIR"),
@@ -52,4 +54,19 @@ fn example() {
     let run = Command::new(&program).output().expect("it runs");
     assert!(run.status.success());
     assert_eq!(String::from_utf8_lossy(&run.stdout), OUTPUT);
+}
+
+/// The header's sizes are the wrapper's.
+#[test]
+fn sizes() {
+    let header = std::fs::read_to_string(format!("{C}/hollyspool.h")).expect("a header");
+    for (name, most) in [
+        ("MODEL", MOST_MODEL),
+        ("ENCODED", MOST_ENCODED),
+        ("BOOK", MOST_BOOK),
+        ("TEXT", MOST_TEXT),
+    ] {
+        let line = format!("#define HOLLYSPOOL_MOST_{name} {most}\n");
+        assert!(header.contains(&line), "no line {line}");
+    }
 }

@@ -6,7 +6,7 @@ use std::ops::Range;
 use crate::answer::{settled, Answer, Number};
 
 /// The largest value of each bound. Nothing else says how many locations or variables there are.
-pub const MOST: usize = 6;
+pub const MOST: usize = 8;
 
 /// The most nodes a formula has.
 pub const MOST_NODES: usize = 64;

@@ -42,8 +42,8 @@ const CHANGED: &[(Changes, u64, u64)] = &[
     // Offsets and lengths never wrap: 11 and 65,535 are not 10.
     (&[(4, 255), (5, 255), (7, 10), (9, 7)], 24, 0),
     // Contents before bounds.
-    (&[(9, 2), (11, 7)], 24, 1),
-    (&[(11, 7)], 12, 0),
+    (&[(9, 2), (11, 9)], 24, 1),
+    (&[(11, 9)], 12, 0),
     // All of the book for the bounds: the contents are as stated, the bounds are not.
     (&[(4, 6), (7, 17), (9, 0)], 12, 0),
 ];

@@ -1,6 +1,7 @@
 //! Document 02, [4]: the path bound belongs to the model.
 
-use cases::made::{book, tame, tree};
+use cases::cost::{any_size, tame};
+use cases::made::{book, tree};
 use cases::random::Random;
 use second::answer::{Answer, Number};
 use second::assign::assign;
@@ -101,7 +102,7 @@ fn a_larger_bound() {
             1 + round % 8,
             &[1, 2, 3, 4, 5, 6, 7, 8, 9, 10],
         );
-        tame(&mut nodes, n, 1_000);
+        tame(&mut nodes, n, any_size(n), 1_000);
         let mut model: Vec<u8> = (0..v).map(|_| random.up_to(n)).collect();
         model.extend((0..n).map(|_| random.up_to(n + 1).wrapping_sub(1)));
         let fits = (0..=n + 1).map(|p| judge(&book([v, n, p], &nodes), &model).number);
@@ -112,7 +113,7 @@ fn a_larger_bound() {
 /// The last two rows are LONG over array 0 and set 0 with p, and the AND of the formula with it.
 #[test]
 fn last_rows() {
-    for p in 0..=6 {
+    for p in 0..=8 {
         let mut out = [0; 100];
         let answer = encode(&book([1, 1, p], &[[4, 1, 0]]), &mut out);
         assert_eq!(answer, Answer::plain(Number::Yes));
@@ -133,16 +134,16 @@ fn assignments() {
     }
 }
 
-/// The most rows: 32 lists over six locations, one of them under a negation, and 31 septractions.
+/// The most rows: 32 lists over eight locations, one of them under a negation, and 31 septractions.
 #[test]
 fn most_rows() {
     let mut nodes = vec![[4, 1, 2]; 32];
     nodes.extend([[8, 31, 0], [10, 32, 30]]);
     nodes.extend((0..30).map(|join| [10, 33 + join, 29 - join]));
-    let book = book([6, 6, 0], &nodes);
-    let mut out = [0; 6_374];
+    let book = book([8, 8, 0], &nodes);
+    let mut out = [0; 7_654];
     assert_eq!(encode(&book, &mut out).number, 0);
     let rows = usize::from(u16::from_le_bytes([out[9], out[10]])) / 10;
-    assert_eq!(rows, 636);
-    assert_eq!(encode(&book, &mut out[..6_373]).number, 20);
+    assert_eq!(rows, 764);
+    assert_eq!(encode(&book, &mut out[..7_653]).number, 20);
 }

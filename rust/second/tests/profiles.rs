@@ -1,6 +1,7 @@
 //! Document 02, [9]: operators 9 and 10 in the ordinary profile, and where both profiles agree.
 
-use cases::made::{book, small, tame, tree};
+use cases::cost::{any_size, tame};
+use cases::made::{book, small, tree};
 use cases::random::Random;
 use second::answer::{Answer, Number};
 use second::assign::assign_in;
@@ -182,7 +183,7 @@ fn without_operator_8() {
         // A tree of an odd count needs no negation.
         let operators = [&operators[..], &[8]].concat();
         let mut nodes = tree(&mut random, bounds[0], 3 + 2 * (round % 4), &operators);
-        tame(&mut nodes, bounds[1], 1_000);
+        tame(&mut nodes, bounds[1], any_size(bounds[1]), 1_000);
         same(bounds, &nodes);
     }
 }

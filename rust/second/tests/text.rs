@@ -156,26 +156,26 @@ fn nodes() {
     }
 }
 
-/// A seventh name, finished before 26's place.
+/// A ninth name, finished before 26's place.
 #[test]
 fn names() {
-    let six = "(and (pto a b) (and (pto c d) (and (pto e f) (pto ";
-    let at = six.len() as u64;
+    let eight = "(and (pto a b) (and (pto c d) (and (pto e f) (and (pto g h) (pto ";
+    let at = eight.len() as u64;
     for (rest, number, place) in [
-        ("g a))))", 28, at),
-        ("g ", 28, at),
-        ("g  )", 28, at),
-        ("g", 26, at + 1),
-        ("g)", 26, at + 1),
-        ("g. a", 26, at + 1),
-        ("a g)", 28, at + 2),
-        ("a g", 26, at + 3),
-        ("a g(", 26, at + 3),
-        ("a sep.nil))))", 0, 0),
-        ("a f))))", 0, 0),
+        ("i a)))))", 28, at),
+        ("i ", 28, at),
+        ("i  )", 28, at),
+        ("i", 26, at + 1),
+        ("i)", 26, at + 1),
+        ("i. a", 26, at + 1),
+        ("a i)", 28, at + 2),
+        ("a i", 26, at + 3),
+        ("a i(", 26, at + 3),
+        ("a sep.nil)))))", 0, 0),
+        ("a h)))))", 0, 0),
     ] {
         assert_eq!(
-            answered(&format!("{six}{rest}")),
+            answered(&format!("{eight}{rest}")),
             [number, place, 0],
             "{rest}"
         );
@@ -186,11 +186,11 @@ fn names() {
 #[test]
 fn order() {
     let mut out = [0xA5; 16];
-    for (n, p) in [(7, 0), (0, 7), (u64::MAX, 0), (1 << 32, 1 << 8)] {
+    for (n, p) in [(9, 0), (0, 9), (u64::MAX, 0), (1 << 32, 1 << 8)] {
         assert_eq!(import(b"?", n, p, &mut out).number, 12);
     }
-    assert_eq!(import(b"?", 6, 6, &mut out).number, 26);
-    assert_eq!(import(b"sep.emp", 6, 6, &mut out).number, 20);
+    assert_eq!(import(b"?", 8, 8, &mut out).number, 26);
+    assert_eq!(import(b"sep.emp", 8, 8, &mut out).number, 20);
     assert_eq!(out, [0xA5; 16]);
 }
 

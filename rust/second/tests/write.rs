@@ -1,6 +1,7 @@
 //! Document 02, [8]: the text of each operator, the longest text, and what is read back.
 
-use cases::made::{book, name_all, small, tame, tree};
+use cases::cost::{any_size, tame};
+use cases::made::{book, name_all, small, tree};
 use cases::random::Random;
 use second::answer::{Answer, Number};
 use second::book::{Book, LONGEST};
@@ -58,12 +59,12 @@ fn operators() {
     }
 }
 
-/// Variables are v1 to v6.
+/// Variables are v1 to v8.
 #[test]
 fn variables() {
-    for x in 1..=6 {
+    for x in 1..=8 {
         assert_eq!(
-            written(&book([6, 0, 0], &[[4, x, x]])),
+            written(&book([8, 0, 0], &[[4, x, x]])),
             format!("(ls v{x} v{x})")
         );
     }
@@ -75,7 +76,7 @@ fn longest() {
     let mut nodes = vec![[2, 0, 0]; 32];
     nodes.extend((0..31).map(|join| [10, 2 * join, 2 * join + 1]));
     nodes.push([8, 62, 0]);
-    assert_eq!(written(&book([6, 6, 6], &nodes)).len(), LONGEST_TEXT);
+    assert_eq!(written(&book([8, 8, 8], &nodes)).len(), LONGEST_TEXT);
 }
 
 /// A text that can't be read back is written all the same.
@@ -116,7 +117,7 @@ fn random_books() {
         );
         let v = name_all(&mut random, &mut nodes, most);
         // Each equation read back is an operator 9 more.
-        tame(&mut nodes, n, 1_000);
+        tame(&mut nodes, n, any_size(n), 1_000);
         let book = book([v, n, p], &nodes);
         let Some(back) = read_back(&book) else {
             continue;

@@ -33,7 +33,7 @@ impl<'a> Complaint<'a> {
                  formula has more than 64"
                 .to_owned(),
             Refusal::ManyNames { .. } => format!(
-                "too many names (28): {} is the seventh, and a text has at most six",
+                "too many names (28): {} is the ninth, and a text has at most eight",
                 name_at(source.text, byte)
             ),
             _ => bad_text(source.text, byte, &expected),

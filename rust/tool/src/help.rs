@@ -29,7 +29,7 @@ const COMMON: &str = "
 FILE is the path of a text or a book, or - for standard input. It is a text if it ends in .smt2, or
 with --text: a formula such as (sep (pto x y) (ls y sep.nil)). A text says nothing of how far to
 look; --n N gives the number of locations besides nil (4 if it is left out), and --p P the most
-links of a model's paths (n if it is left out), each up to 6. A whole SMT-LIB file, with
+links of a model's paths (n if it is left out), each up to 8. A whole SMT-LIB file, with
 (assert ..), is translated into such a text first. The text is read by a proved call; the
 translation is not proved.
 

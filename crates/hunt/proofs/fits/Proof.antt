@@ -1,6 +1,7 @@
 -- `hunt::fits` meets its contract. Assumes nothing.
 use borrow.Author.Needs.{needs}
 use Rattle.logic.specs.Table.{tree}
+use Rattle.pairs.specs.PairLaws.{lists-fewer}
 use Rattle.judge.specs.Fitting.{fits-short, fits-not}
 use Rattle.hunt.specs.HuntLaws.{ready, fits-is}
 use Rattle.hunt.proofs.fits.Statement.{statement}
@@ -16,7 +17,7 @@ node-holds-requires c κs =
     let q = b .pre in
     let m = c .before .number in
     let rd = ready (a .profile) (m .result) (m .ensures) (a .c) (a .p) (q .2) (a .f .now) (a .k) (a .u) (q .0) (q .1) (q .3) (q .4) in
-    (rd, q .2 .heap, q .5)
+    (rd, q .2 .heap, lists-fewer _ _ (q .5) _ (q .4))
 
 is-short-requires : tie.Need-is-short-requires
 is-short-requires c κs = search needs

@@ -16,13 +16,16 @@ use Rattle.hunt.proofs.hunt.Statement.{statement}
 use Rattle.hunt.proofs.hunt.Tie as tie
 
 abbrev Inv-loop : tie.InvT-loop
-Inv-loop π f k v n p budget pairs t end c₀ u₀ i₀ c u i = Going π v n (CandidateFits π v n p (tree f k)) i c u × (i ≤ end) × (end ≤ t) × (end ≤ budget) × ((end ≡ t) ⊎ (end ≡ budget)) × (t ≡ total v n)
+Inv-loop π f k v n p budget list t end c₀ u₀ i₀ c u i = Going π v n (CandidateFits π v n p (tree f k)) i c u × (i ≤ end) × (end ≤ t) × (end ≤ budget) × ((end ≡ t) ⊎ (end ≡ budget)) × (t ≡ total v n)
 
 abbrev μ-loop : tie.MeasureT-loop
-μ-loop π f k v n p budget pairs t end c₀ u₀ i₀ c u i = end - i
+μ-loop π f k v n p budget list t end c₀ u₀ i₀ c u i = end - i
 
-pairs-requires : tie.Need-pairs-requires Inv-loop μ-loop
-pairs-requires c κs = search needs
+all-requires : tie.Need-all-requires Inv-loop μ-loop
+all-requires c κs = search needs
+
+slice-aggregate-list : tie.Need-slice-aggregate-list Inv-loop μ-loop
+slice-aggregate-list c = search needs
 
 total-requires : tie.Need-total-requires Inv-loop μ-loop
 total-requires c κs = search needs
@@ -45,7 +48,7 @@ loop-holds c =
 fits-requires : tie.Need-fits-requires Inv-loop μ-loop
 fits-requires c κs =
     let g = c .before .before .loop .inv .0 in
-    (omega arith, subst (λ (v : ℕ). Sound v (c .before .before .before .before .before .before .before .before .args .f .now) (suc (c .before .before .before .before .before .before .before .before .args .k))) (sym (g .vars)) (c .before .before .before .before .before .before .before .before .pre .1), g .range, g .barred, subst (λ (n : ℕ). n ≤ most) (sym (g .locs)) (c .before .before .before .before .before .before .before .before .pre .3), c .before .before .before .before .before .before .before .pairs .ensures)
+    (omega arith, subst (λ (v : ℕ). Sound v (c .before .before .before .before .before .before .before .before .before .args .f .now) (suc (c .before .before .before .before .before .before .before .before .before .args .k))) (sym (g .vars)) (c .before .before .before .before .before .before .before .before .before .pre .1), g .range, g .barred, subst (λ (n : ℕ). n ≤ most) (sym (g .locs)) (c .before .before .before .before .before .before .before .before .before .pre .3), c .before .before .before .before .before .before .before .before .all .ensures)
 
 add-stop : tie.Need-add-stop Inv-loop μ-loop
 add-stop c = omega arith
@@ -55,7 +58,7 @@ stop-requires c κs = search needs
 
 returns : tie.Need-returns Inv-loop μ-loop
 returns c =
-    let a = c .before .before .before .before .before .before .before .before .before .before .before .args in
+    let a = c .before .before .before .before .before .before .before .before .before .before .before .before .args in
     let l = c .before .before .before .before .before .loop in
     let m : l .i < total (a .v) (a .n) = omega (arith, l .inv .5) in
     let y = going-fits (a .profile) (a .v) (a .n) (a .p) (tree (a .f .now) (a .k)) (l .i) (l .u) (l .c) (l .inv .0) m _ (c .before .before .fits2 .ensures) .to (c .before .if1 .taken) in
@@ -76,7 +79,7 @@ loop-less c = omega arith
 
 loop-again : tie.Need-loop-again Inv-loop μ-loop
 loop-again c =
-    let a = c .before .before .before .before .before .before .before .before .before .before .before .before .args in
+    let a = c .before .before .before .before .before .before .before .before .before .before .before .before .before .args in
     let l = c .before .before .before .before .before .before .loop in
     let m : l .i < total (a .v) (a .n) = omega (arith, l .inv .5) in
     let f = fails _ (going-fits (a .profile) (a .v) (a .n) (a .p) (tree (a .f .now) (a .k)) (l .i) (l .u) (l .c) (l .inv .0) m _ (c .before .before .before .fits2 .ensures)) (c .before .before .if1 .left) in
@@ -90,7 +93,7 @@ stop-requires-2 c κs = search needs
 
 returns-2 : tie.Need-returns-2 Inv-loop μ-loop
 returns-2 c =
-    let a = c .before .before .before .before .before .before .before .before .before .before .args in
+    let a = c .before .before .before .before .before .before .before .before .before .before .before .args in
     let l = c .before .before .before .before .loop in
     let e = leb-true _ _ (sym (c .before .before .enough .ensures) ∙ c .before .if2 .taken) in
     hunted-as (a .v) (a .n) (CandidateFits (a .profile) (a .v) (a .n) (a .p) (tree (a .f .now) (a .k))) (a .budget) _ _ _ _ (c .stop2 .ensures .0) (c .stop2 .ensures .1)
@@ -101,7 +104,7 @@ stop-requires-3 c κs = search needs
 
 returns-3 : tie.Need-returns-3 Inv-loop μ-loop
 returns-3 c =
-    let a = c .before .before .before .before .before .before .before .before .before .before .args in
+    let a = c .before .before .before .before .before .before .before .before .before .before .before .args in
     let l = c .before .before .before .before .loop in
     let e = leb-false _ _ (sym (c .before .before .enough .ensures) ∙ c .before .if2 .left) in
     hunted-as (a .v) (a .n) (CandidateFits (a .profile) (a .v) (a .n) (a .p) (tree (a .f .now) (a .k))) (a .budget) _ _ _ _ (c .stop3 .ensures .0) (c .stop3 .ensures .1)
@@ -113,7 +116,8 @@ hunt-spec =
     (tie.spec
     Inv-loop
     μ-loop
-    pairs-requires
+    all-requires
+    slice-aggregate-list
     total-requires
     least-requires
     first-requires

@@ -4,6 +4,7 @@ use mathlib.Core.Path.{_≡_, refl, sym, subst, _∙_, ap}
 use mathlib.Core.Bool.{not}
 use Prim.Native.Nat.{ℕ, zero-le, _+_, _*_, _-_, _<_, _≤_}
 use native.Mathlib.Omega.{arith}
+use lib.ListN.{length}
 use borrow.Author.Needs.{needs}
 use borrow.Author.Tests.{not-true, not-false}
 use borrow.Fn.Kinds.{In}
@@ -19,14 +20,14 @@ use Rattle.cells.proofs.source_below.Reads as source-below-reads
 use Rattle.cells.proofs.spread.Reads as spread-reads
 use Rattle.cells.proofs.table.Reads as table-reads
 use Rattle.cells.proofs.taken.Reads as taken-reads
-use Rattle.pairs.specs.Pairs.{size}
+use Rattle.pairs.specs.PairLaws.{inside-short}
 use Rattle.pairs.specs.Steps.{sub-le}
 use Rattle.pairs.proofs.begin.Reads as begin-reads
 use Rattle.pairs.proofs.part_at.Reads as part-at-reads
 use Rattle.judge.specs.Setting.{varsOf, locsOf, profileOf, stackOf, truthAt, firstAt, secondAt, servesAt, Tried, Walking}
 use Rattle.judge.specs.Joins.{operator-low, operator-high, lower-a, lower-b, ready-below, truth-5, truth-6, truth-7, truth-8, truth-9, truth-10, and-first, and-second}
-use Rattle.judge.specs.Trial.{chosen-any, sub-within, trying-none, trying-found, part-is-heap, rest-is-heap, serves-not-apart, serves-both, sep-out}
-use Rattle.judge.specs.Walk.{walk-trying, walk-first, taken-listed, walk-next}
+use Rattle.judge.specs.Trial.{chosen-any, taken-small, sub-within, trying-none, trying-found, part-is-heap, rest-is-heap, serves-not-apart, serves-both, sep-out}
+use Rattle.judge.specs.Walk.{walk-trying, walk-first, walk-next}
 use Rattle.judge.specs.Adding.{fill-first, whole-heap, fill-less, put-filled, fill-skip, fill-clash, put-found, fill-last, tried-none, tried-more, tried-found, tried-all, added-is}
 use Rattle.judge.proofs.a_holds.Reads as a-holds
 use Rattle.judge.proofs.a_holds.Kinds as a-holds-kinds
@@ -63,97 +64,97 @@ use Rattle.leaves.proofs.wide.Reads as wide-reads
 use Rattle.judge.proofs.+a_holds+added+b_holds+both+child_holds+digit+fill+join+serves+split.{statement}
 use Rattle.judge.proofs.+a_holds+added+b_holds+both+child_holds+digit+fill+join+serves+split.Tie.{close}
 
-abbrev μ-a-holds : Measures 3 a-holds-kinds.ps ℕ
+abbrev μ-a-holds : Measures 4 a-holds-kinds.ps ℕ
 μ-a-holds κs a = 32 * (a .1 .0)
 
-abbrev μ-added : Measures 3 added-kinds.ps ℕ
+abbrev μ-added : Measures 4 added-kinds.ps ℕ
 μ-added κs a = 32 * (a .1 .0) + 22
 
-abbrev μ-b-holds : Measures 3 b-holds-kinds.ps ℕ
+abbrev μ-b-holds : Measures 4 b-holds-kinds.ps ℕ
 μ-b-holds κs a = 32 * (a .1 .0)
 
-abbrev μ-both : Measures 3 both-kinds.ps ℕ
+abbrev μ-both : Measures 4 both-kinds.ps ℕ
 μ-both κs a = 32 * (a .1 .0) + 1
 
-abbrev μ-child-holds : Measures 3 child-holds-kinds.ps ℕ
+abbrev μ-child-holds : Measures 4 child-holds-kinds.ps ℕ
 μ-child-holds κs a = 32 * (a .1 .0) + 24
 
-abbrev μ-digit : Measures 3 digit-kinds.ps ℕ
+abbrev μ-digit : Measures 4 digit-kinds.ps ℕ
 μ-digit κs a = 32 * (a .1 .0) + 2 * (a .1 .1 .1 .1 .1 .0) + 3
 
-abbrev μ-fill : Measures 3 fill-kinds.ps ℕ
+abbrev μ-fill : Measures 4 fill-kinds.ps ℕ
 μ-fill κs a = 32 * (a .1 .0) + 2 * (a .1 .1 .1 .1 .1 .0) + 4
 
-abbrev μ-join : Measures 3 join-kinds.ps ℕ
+abbrev μ-join : Measures 4 join-kinds.ps ℕ
 μ-join κs a = 32 * (a .1 .0) + 23
 
-abbrev μ-serves : Measures 3 serves-kinds.ps ℕ
+abbrev μ-serves : Measures 4 serves-kinds.ps ℕ
 μ-serves κs a = 32 * (a .1 .0) + 2
 
-abbrev μ-split : Measures 3 split-kinds.ps ℕ
+abbrev μ-split : Measures 4 split-kinds.ps ℕ
 μ-split κs a = 32 * (a .1 .0) + 22
 
-abbrev a-holds-at : ℕ → In 3 a-holds-kinds.ps
-a-holds-at t = and 3 a-holds-kinds.ps (is 3 a-holds-kinds.ps μ-a-holds t) a-holds.Pre
+abbrev a-holds-at : ℕ → In 4 a-holds-kinds.ps
+a-holds-at t = and 4 a-holds-kinds.ps (is 4 a-holds-kinds.ps μ-a-holds t) a-holds.Pre
 
-abbrev a-holds-below : ℕ → In 3 a-holds-kinds.ps
-a-holds-below t = and 3 a-holds-kinds.ps (falls 3 a-holds-kinds.ps _<_ μ-a-holds t) a-holds.Pre
+abbrev a-holds-below : ℕ → In 4 a-holds-kinds.ps
+a-holds-below t = and 4 a-holds-kinds.ps (falls 4 a-holds-kinds.ps _<_ μ-a-holds t) a-holds.Pre
 
-abbrev added-at : ℕ → In 3 added-kinds.ps
-added-at t = and 3 added-kinds.ps (is 3 added-kinds.ps μ-added t) added.Pre
+abbrev added-at : ℕ → In 4 added-kinds.ps
+added-at t = and 4 added-kinds.ps (is 4 added-kinds.ps μ-added t) added.Pre
 
-abbrev added-below : ℕ → In 3 added-kinds.ps
-added-below t = and 3 added-kinds.ps (falls 3 added-kinds.ps _<_ μ-added t) added.Pre
+abbrev added-below : ℕ → In 4 added-kinds.ps
+added-below t = and 4 added-kinds.ps (falls 4 added-kinds.ps _<_ μ-added t) added.Pre
 
-abbrev b-holds-at : ℕ → In 3 b-holds-kinds.ps
-b-holds-at t = and 3 b-holds-kinds.ps (is 3 b-holds-kinds.ps μ-b-holds t) b-holds.Pre
+abbrev b-holds-at : ℕ → In 4 b-holds-kinds.ps
+b-holds-at t = and 4 b-holds-kinds.ps (is 4 b-holds-kinds.ps μ-b-holds t) b-holds.Pre
 
-abbrev b-holds-below : ℕ → In 3 b-holds-kinds.ps
-b-holds-below t = and 3 b-holds-kinds.ps (falls 3 b-holds-kinds.ps _<_ μ-b-holds t) b-holds.Pre
+abbrev b-holds-below : ℕ → In 4 b-holds-kinds.ps
+b-holds-below t = and 4 b-holds-kinds.ps (falls 4 b-holds-kinds.ps _<_ μ-b-holds t) b-holds.Pre
 
-abbrev both-at : ℕ → In 3 both-kinds.ps
-both-at t = and 3 both-kinds.ps (is 3 both-kinds.ps μ-both t) both.Pre
+abbrev both-at : ℕ → In 4 both-kinds.ps
+both-at t = and 4 both-kinds.ps (is 4 both-kinds.ps μ-both t) both.Pre
 
-abbrev both-below : ℕ → In 3 both-kinds.ps
-both-below t = and 3 both-kinds.ps (falls 3 both-kinds.ps _<_ μ-both t) both.Pre
+abbrev both-below : ℕ → In 4 both-kinds.ps
+both-below t = and 4 both-kinds.ps (falls 4 both-kinds.ps _<_ μ-both t) both.Pre
 
-abbrev child-holds-at : ℕ → In 3 child-holds-kinds.ps
+abbrev child-holds-at : ℕ → In 4 child-holds-kinds.ps
 child-holds-at t =
-    and 3 child-holds-kinds.ps (is 3 child-holds-kinds.ps μ-child-holds t) child-holds.Pre
+    and 4 child-holds-kinds.ps (is 4 child-holds-kinds.ps μ-child-holds t) child-holds.Pre
 
-abbrev child-holds-below : ℕ → In 3 child-holds-kinds.ps
+abbrev child-holds-below : ℕ → In 4 child-holds-kinds.ps
 child-holds-below t =
-    and 3 child-holds-kinds.ps (falls 3 child-holds-kinds.ps _<_ μ-child-holds t) child-holds.Pre
+    and 4 child-holds-kinds.ps (falls 4 child-holds-kinds.ps _<_ μ-child-holds t) child-holds.Pre
 
-abbrev digit-at : ℕ → In 3 digit-kinds.ps
-digit-at t = and 3 digit-kinds.ps (is 3 digit-kinds.ps μ-digit t) digit.Pre
+abbrev digit-at : ℕ → In 4 digit-kinds.ps
+digit-at t = and 4 digit-kinds.ps (is 4 digit-kinds.ps μ-digit t) digit.Pre
 
-abbrev digit-below : ℕ → In 3 digit-kinds.ps
-digit-below t = and 3 digit-kinds.ps (falls 3 digit-kinds.ps _<_ μ-digit t) digit.Pre
+abbrev digit-below : ℕ → In 4 digit-kinds.ps
+digit-below t = and 4 digit-kinds.ps (falls 4 digit-kinds.ps _<_ μ-digit t) digit.Pre
 
-abbrev fill-at : ℕ → In 3 fill-kinds.ps
-fill-at t = and 3 fill-kinds.ps (is 3 fill-kinds.ps μ-fill t) fill.Pre
+abbrev fill-at : ℕ → In 4 fill-kinds.ps
+fill-at t = and 4 fill-kinds.ps (is 4 fill-kinds.ps μ-fill t) fill.Pre
 
-abbrev fill-below : ℕ → In 3 fill-kinds.ps
-fill-below t = and 3 fill-kinds.ps (falls 3 fill-kinds.ps _<_ μ-fill t) fill.Pre
+abbrev fill-below : ℕ → In 4 fill-kinds.ps
+fill-below t = and 4 fill-kinds.ps (falls 4 fill-kinds.ps _<_ μ-fill t) fill.Pre
 
-abbrev join-at : ℕ → In 3 join-kinds.ps
-join-at t = and 3 join-kinds.ps (is 3 join-kinds.ps μ-join t) join.Pre
+abbrev join-at : ℕ → In 4 join-kinds.ps
+join-at t = and 4 join-kinds.ps (is 4 join-kinds.ps μ-join t) join.Pre
 
-abbrev join-below : ℕ → In 3 join-kinds.ps
-join-below t = and 3 join-kinds.ps (falls 3 join-kinds.ps _<_ μ-join t) join.Pre
+abbrev join-below : ℕ → In 4 join-kinds.ps
+join-below t = and 4 join-kinds.ps (falls 4 join-kinds.ps _<_ μ-join t) join.Pre
 
-abbrev serves-at : ℕ → In 3 serves-kinds.ps
-serves-at t = and 3 serves-kinds.ps (is 3 serves-kinds.ps μ-serves t) serves.Pre
+abbrev serves-at : ℕ → In 4 serves-kinds.ps
+serves-at t = and 4 serves-kinds.ps (is 4 serves-kinds.ps μ-serves t) serves.Pre
 
-abbrev serves-below : ℕ → In 3 serves-kinds.ps
-serves-below t = and 3 serves-kinds.ps (falls 3 serves-kinds.ps _<_ μ-serves t) serves.Pre
+abbrev serves-below : ℕ → In 4 serves-kinds.ps
+serves-below t = and 4 serves-kinds.ps (falls 4 serves-kinds.ps _<_ μ-serves t) serves.Pre
 
-abbrev split-at : ℕ → In 3 split-kinds.ps
-split-at t = and 3 split-kinds.ps (is 3 split-kinds.ps μ-split t) split.Pre
+abbrev split-at : ℕ → In 4 split-kinds.ps
+split-at t = and 4 split-kinds.ps (is 4 split-kinds.ps μ-split t) split.Pre
 
-abbrev split-below : ℕ → In 3 split-kinds.ps
-split-below t = and 3 split-kinds.ps (falls 3 split-kinds.ps _<_ μ-split t) split.Pre
+abbrev split-below : ℕ → In 4 split-kinds.ps
+split-below t = and 4 split-kinds.ps (falls 4 split-kinds.ps _<_ μ-split t) split.Pre
 
 abbrev a-holds-uses : ℕ → a-holds-lts.Claims
 a-holds-uses t = (wide-reads.Asked, wide-reads.Learnt, child-holds-below t, child-holds.Post)
@@ -419,10 +420,10 @@ serves-returns-2 : (t : ℕ) → serves-lts.Need-returns-2 (serves-uses t) (serv
 serves-returns-2 t c = serves-both _ _ _ _ ((c .before .before .before .before .pre .1 .0) .ready .barred) _ _ _ _ (c .before .before .before .before .pre .1 .1) (c .before .before .before .before .pre .1 .2) (c .before .before .before .spread .ensures) _ _ _ (c .before .before .before .before .pre .1 .4) (c .before .before .parts-apart .ensures) _ (not-false _ (c .before .if1 .left)) (c .both .ensures)
 
 abbrev split-Inv-loop : split-lts.InvT-loop
-split-Inv-loop f k b w pairs a t i₀ i = Walking pairs (servesAt f b k w) a i
+split-Inv-loop f k b w pairs a t list i₀ i = Walking list (servesAt f b k w) a i
 
 abbrev split-μ-loop : split-lts.MeasureT-loop
-split-μ-loop f k b w pairs a t i₀ i = size - i
+split-μ-loop f k b w pairs a t list i₀ i = length list - i
 
 split-taken-requires : (t : ℕ) → split-lts.Need-taken-requires (split-uses t) (split-at t) split.Post split-Inv-loop split-μ-loop
 split-taken-requires t c κs = heap-more _ _ _ ((c .pre .1 .0) .ready .fewLocs) (c .pre .1 .1)
@@ -434,31 +435,31 @@ split-table-requires : (t : ℕ) → split-lts.Need-table-requires (split-uses t
 split-table-requires t c κs = (((c .before .before .pre .1 .0) .ready .barred) .small, heap-more _ _ _ ((c .before .before .pre .1 .0) .ready .fewLocs) (c .before .before .pre .1 .1))
 
 split-begin-requires : (t : ℕ) → split-lts.Need-begin-requires (split-uses t) (split-at t) split.Post split-Inv-loop split-μ-loop
-split-begin-requires t c κs = (c .before .before .before .pre .1 .2, taken-listed _ _ _ ((c .before .before .before .pre .1 .0) .ready .fewLocs) (c .before .before .before .pre .1 .1) (c .before .before .taken .ensures) ((c .before .before .before .pre .1 .0) .ready .listed))
+split-begin-requires t c κs = (_, c .before .before .before .before .pre .1 .2, taken-small _ _ _ ((c .before .before .before .before .pre .1 .0) .ready .fewLocs) (c .before .before .before .before .pre .1 .1) (c .before .before .before .taken .ensures))
 
 split-loop-holds : (t : ℕ) → split-lts.Need-loop-holds (split-uses t) (split-at t) split.Post split-Inv-loop split-μ-loop
 split-loop-holds t c = walk-first _ _ _ _ (c .begin .ensures .0) (c .begin .ensures .1)
 
 split-part-at-requires : (t : ℕ) → split-lts.Need-part-at-requires (split-uses t) (split-at t) split.Post split-Inv-loop split-μ-loop
-split-part-at-requires t c κs = (c .before .before .before .before .before .pre .1 .2, c .loop .inv .inside .low, c .loop .inv .inside .high)
+split-part-at-requires t c κs = c .loop .inv .inside .high
 
 split-serves-requires : (t : ℕ) → split-lts.Need-serves-requires (split-uses t) (split-at t) split.Post split-Inv-loop split-μ-loop
-split-serves-requires t c κs = let q = (walk-trying _ _ _ _ _ (c .part-at .ensures) (c .before .loop .inv)) in (omega arith, ((c .before .before .before .before .before .before .pre .1 .0), (c .before .before .before .before .before .before .pre .1 .1), c .before .before .before .table .ensures, omega (arith, sub-le _ _ (q .sub), c .before .before .before .before .before .taken .ensures .small), sub-within _ _ _ ((c .before .before .before .before .before .before .pre .1 .0) .ready .fewLocs) (c .before .before .before .before .before .before .pre .1 .1) (c .before .before .before .before .before .taken .ensures) _ (q .sub), c .before .before .before .before .before .before .pre .1 .2))
+split-serves-requires t c κs = let q = (walk-trying _ _ _ _ _ (c .part-at .ensures) (c .before .loop .inv)) in (omega arith, ((c .before .before .before .before .before .before .before .pre .1 .0), (c .before .before .before .before .before .before .before .pre .1 .1), c .before .before .before .before .table .ensures, omega (arith, sub-le _ _ (q .sub), c .before .before .before .before .before .before .taken .ensures .small), sub-within _ _ _ ((c .before .before .before .before .before .before .before .pre .1 .0) .ready .fewLocs) (c .before .before .before .before .before .before .before .pre .1 .1) (c .before .before .before .before .before .before .taken .ensures) _ (q .sub), c .before .before .before .before .before .before .before .pre .1 .2))
 
 split-add-i : (t : ℕ) → split-lts.Need-add-i (split-uses t) (split-at t) split.Post split-Inv-loop split-μ-loop
-split-add-i t c = omega (arith, c .before .before .before .before .loop .inv .inside .high)
+split-add-i t c = omega (arith, inside-short _ _ _ (c .before .before .before .before .loop .inv .inside))
 
 split-loop-less : (t : ℕ) → split-lts.Need-loop-less (split-uses t) (split-at t) split.Post split-Inv-loop split-μ-loop
 split-loop-less t c = omega (arith, c .before .before .before .before .loop .inv .inside .high)
 
 split-loop-again : (t : ℕ) → split-lts.Need-loop-again (split-uses t) (split-at t) split.Post split-Inv-loop split-μ-loop
-split-loop-again t c = walk-next _ _ _ ((c .before .before .before .before .before .before .before .before .before .pre .1 .0) .ready .fewLocs) (c .before .before .before .before .before .before .before .before .before .pre .1 .1) (c .before .before .before .before .before .before .before .before .taken .ensures) _ (λ i e. sep-out _ _ _ _ _ _ _ _ e) _ (c .before .before .before .before .before .before .before .before .before .pre .1 .2) _ _ (c .before .before .before .part-at .ensures) (c .before .before .before .before .loop .inv) (c .if2 .left) (sym (c .before .before .serves .ensures) ∙ c .before .if1 .left)
+split-loop-again t c = walk-next _ _ _ ((c .before .before .before .before .before .before .before .before .before .before .pre .1 .0) .ready .fewLocs) (c .before .before .before .before .before .before .before .before .before .before .pre .1 .1) (c .before .before .before .before .before .before .before .before .before .taken .ensures) _ (λ i e. sep-out _ _ _ _ _ _ _ _ e) _ _ _ (c .before .before .before .part-at .ensures) (c .before .before .before .before .loop .inv) (c .if2 .left) (sym (c .before .before .serves .ensures) ∙ c .before .if1 .left)
 
 split-returns : (t : ℕ) → split-lts.Need-returns (split-uses t) (split-at t) split.Post split-Inv-loop split-μ-loop
-split-returns t c = trying-found _ _ _ ((c .before .before .before .before .before .before .before .before .pre .1 .0) .ready .fewLocs) (c .before .before .before .before .before .before .before .before .pre .1 .1) (c .before .before .before .before .before .before .before .taken .ensures) _ (λ i e. sep-out _ _ _ _ _ _ _ _ e) _ (walk-trying _ _ _ _ _ (c .before .before .part-at .ensures) (c .before .before .before .loop .inv)) (sym (c .before .serves .ensures) ∙ c .if1 .taken)
+split-returns t c = trying-found _ _ _ ((c .before .before .before .before .before .before .before .before .before .pre .1 .0) .ready .fewLocs) (c .before .before .before .before .before .before .before .before .before .pre .1 .1) (c .before .before .before .before .before .before .before .before .taken .ensures) _ (λ i e. sep-out _ _ _ _ _ _ _ _ e) _ (walk-trying _ _ _ _ _ (c .before .before .part-at .ensures) (c .before .before .before .loop .inv)) (sym (c .before .serves .ensures) ∙ c .if1 .taken)
 
 split-returns-2 : (t : ℕ) → split-lts.Need-returns-2 (split-uses t) (split-at t) split.Post split-Inv-loop split-μ-loop
-split-returns-2 t c = trying-none _ _ _ ((c .before .before .before .before .before .before .before .before .before .pre .1 .0) .ready .fewLocs) (c .before .before .before .before .before .before .before .before .before .pre .1 .1) (c .before .before .before .before .before .before .before .before .taken .ensures) _ (λ i e. sep-out _ _ _ _ _ _ _ _ e) _ (walk-trying _ _ _ _ _ (c .before .before .before .part-at .ensures) (c .before .before .before .before .loop .inv)) (c .if2 .taken) (sym (c .before .before .serves .ensures) ∙ c .before .if1 .left)
+split-returns-2 t c = trying-none _ _ _ ((c .before .before .before .before .before .before .before .before .before .before .pre .1 .0) .ready .fewLocs) (c .before .before .before .before .before .before .before .before .before .before .pre .1 .1) (c .before .before .before .before .before .before .before .before .before .taken .ensures) _ (λ i e. sep-out _ _ _ _ _ _ _ _ e) _ (walk-trying _ _ _ _ _ (c .before .before .before .part-at .ensures) (c .before .before .before .before .loop .inv)) (c .if2 .taken) (sym (c .before .before .serves .ensures) ∙ c .before .if1 .left)
 
 pub +a-holds+added+b-holds+both+child-holds+digit+fill+join+serves+split-spec :
     {M : Type 1} → statement M

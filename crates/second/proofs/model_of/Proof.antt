@@ -1,23 +1,24 @@
 -- `second::model_of` is safe and ends. Assumes nothing.
 use borrow.Author.Needs.{needs}
-use Prim.Native.Nat.{_-_, _≤_}
+use Prim.Native.Nat.{_-_, _*_, _≤_}
+use Rattle.logic.specs.Book.{most}
 use Rattle.second.proofs.model_of.Statement.{statement}
 use Rattle.second.proofs.model_of.Tie as tie
 
 abbrev Inv-loop : tie.InvT-loop
-Inv-loop v n w h model₀ i₀ model i = i ≤ 12
+Inv-loop v n w h model₀ i₀ model i = i ≤ 2 * most
 
 abbrev μ-loop : tie.MeasureT-loop
-μ-loop v n w h model₀ i₀ model i = 12 - i
+μ-loop v n w h model₀ i₀ model i = 2 * most - i
 
 loop-holds : tie.Need-loop-holds Inv-loop μ-loop
 loop-holds c = search needs
 
+cast-model-byte : tie.Need-cast-model-byte Inv-loop μ-loop
+cast-model-byte c = search needs
+
 model-byte-requires : tie.Need-model-byte-requires Inv-loop μ-loop
 model-byte-requires c κs = search needs
-
-wide-requires : tie.Need-wide-requires Inv-loop μ-loop
-wide-requires c κs = search needs
 
 array-write-model : tie.Need-array-write-model Inv-loop μ-loop
 array-write-model c = search needs
@@ -41,8 +42,8 @@ model-of-spec =
     Inv-loop
     μ-loop
     loop-holds
+    cast-model-byte
     model-byte-requires
-    wide-requires
     array-write-model
     add-i
     loop-less

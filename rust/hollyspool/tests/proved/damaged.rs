@@ -6,7 +6,7 @@ use cases::line::all;
 use cases::made::book;
 use second::book::CONTENTS;
 
-use crate::compare::same_reading;
+use crate::compare::{same_reading, MOST};
 
 /// Ends of ranges in a book, and their neighbours.
 const BYTES: [u8; 26] = [
@@ -111,7 +111,7 @@ fn accepted() -> BTreeSet<Vec<u8>> {
     books.retain(|book| second::book::read(book).number == 0);
     books.extend([
         book([0, 0, 0], &[[1, 0, 0]]),
-        book([6, 6, 6], &[[4, 6, 0], [8, 0, 0]]),
+        book([MOST; 3], &[[4, MOST, 0], [8, 0, 0]]),
         book([1, 2, 3], &[[3, 1, 0], [2, 0, 1], [10, 1, 0]]),
         largest(),
     ]);
@@ -120,8 +120,8 @@ fn accepted() -> BTreeSet<Vec<u8>> {
 
 /// The longest book: 32 atoms, joined by 31 nodes, and a negation above them.
 fn largest() -> Vec<u8> {
-    let mut nodes = vec![[4, 6, 5]; 32];
+    let mut nodes = vec![[4, MOST, MOST - 1]; 32];
     nodes.extend((0..31).map(|join| [9, 2 * join, 2 * join + 1]));
     nodes.push([8, 62, 0]);
-    book([6, 6, 6], &nodes)
+    book([MOST; 3], &nodes)
 }

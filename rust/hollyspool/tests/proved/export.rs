@@ -66,7 +66,7 @@ fn longest() {
     let mut nodes = vec![[2, 0, 0]; 32];
     nodes.extend((0..31).map(|join| [10, 2 * join, 2 * join + 1]));
     nodes.push([8, 62, 0]);
-    let book = book([6, 6, 6], &nodes);
+    let book = book([MOST; 3], &nodes);
     assert_eq!(same_text(&book, MOST_TEXT), MOST_TEXT);
     same_text(&book, MOST_TEXT - 1);
 }

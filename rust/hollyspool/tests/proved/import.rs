@@ -42,8 +42,8 @@ fn damaged_texts() {
 /// Any n and p.
 #[test]
 fn bounds() {
-    for n in (0..=8).chain([255, 256, 1 << 32, u64::MAX]) {
-        for p in (0..=8).chain([255, 256, 1 << 32, u64::MAX]) {
+    for n in (0..=10).chain([255, 256, 1 << 32, u64::MAX]) {
+        for p in (0..=10).chain([255, 256, 1 << 32, u64::MAX]) {
             for text in ["(ls x y)", "(ls x y", ""] {
                 same_at(text.as_bytes(), n, p, 17);
                 same_at(text.as_bytes(), n, p, 16);
@@ -62,7 +62,7 @@ fn names() {
         let shape = Shape {
             items: 1 + round % 24,
             depth: 16,
-            names: 1 + round % 7,
+            names: 1 + round % 9,
         };
         let tokens = tokens(&mut random, shape);
         let text = text(&mut random, &tokens, round % 3);

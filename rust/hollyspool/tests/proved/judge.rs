@@ -1,7 +1,8 @@
 //! The judge: the case lines, all small formulas on all their models, and random ones.
 
+use cases::cost::{sizes, tame};
 use cases::line::{about, Call, Outcome};
-use cases::made::{book, small, tame, tree};
+use cases::made::{book, small, tree};
 use cases::random::Random;
 use second::book::Bounds;
 use second::candidate::count;
@@ -43,10 +44,12 @@ fn random_formulas() {
         let bounds = [(); 3].map(|()| random.up_to(MOST));
         let mut nodes = tree(&mut random, bounds[0], 1 + round % 64, &OPERATORS);
         let most = random.one_of(&[1_000, 20_000, 1_000_000]);
-        tame(&mut nodes, bounds[1], most);
+        let models = [(); 8].map(|()| crowded(&mut random, bounds));
+        let sizes = sizes(bounds[0].into(), &models);
+        tame(&mut nodes, bounds[1], sizes, most);
         let book = book(bounds, &nodes);
-        for _ in 0..8 {
-            same_judging(&book, &crowded(&mut random, bounds));
+        for model in models {
+            same_judging(&book, &model);
         }
     }
 }
@@ -58,10 +61,12 @@ fn random_formulas_of_few_nodes() {
     for round in 0..60_000 {
         let bounds = [random.up_to(3), random.up_to(MOST), random.up_to(MOST)];
         let mut nodes = tree(&mut random, bounds[0], 3 + round % 8, &OPERATORS);
-        tame(&mut nodes, bounds[1], 100_000);
+        let models = [(); 8].map(|()| crowded(&mut random, bounds));
+        let sizes = sizes(bounds[0].into(), &models);
+        tame(&mut nodes, bounds[1], sizes, 100_000);
         let book = book(bounds, &nodes);
-        for _ in 0..8 {
-            same_judging(&book, &crowded(&mut random, bounds));
+        for model in models {
+            same_judging(&book, &model);
         }
     }
 }
@@ -78,7 +83,8 @@ fn refused_models() {
             0 => model.resize(length, 0),
             _ => model.iter_mut().for_each(|byte| {
                 if random.below(6) == 0 {
-                    *byte = random.one_of(&[0, bounds[1], bounds[1] + 1, 7, 8, 128, 254, 255]);
+                    let n = bounds[1];
+                    *byte = random.one_of(&[0, n, n + 1, MOST, MOST + 1, 128, 254, 255]);
                 }
             }),
         }

@@ -2,7 +2,8 @@
 
 use std::collections::BTreeMap;
 
-use cases::made::{book, small, tame, tree};
+use cases::cost::{sizes, tame};
+use cases::made::{book, small, tree};
 use cases::random::Random;
 use cases::renumber::{renumbered, renumbering, renumberings};
 use hollyspool::{judge_in, Profile};
@@ -48,10 +49,11 @@ fn random_formulas() {
     for round in 0..20_000 {
         let bounds = [random.up_to(4), random.up_to(MOST), random.up_to(MOST)];
         let mut nodes = tree(&mut random, bounds[0], 1 + round % 16, &OPERATORS);
-        tame(&mut nodes, bounds[1], 100_000);
+        let models = [(); 4].map(|()| crowded(&mut random, bounds));
+        let sizes = sizes(bounds[0].into(), &models);
+        tame(&mut nodes, bounds[1], sizes, 100_000);
         let book = book(bounds, &nodes);
-        for _ in 0..4 {
-            let model = crowded(&mut random, bounds);
+        for model in models {
             let to = renumbering(&mut random, bounds[1]);
             let other = renumbered(bounds[0].into(), &model, &to);
             for profile in Profile::ALL {

@@ -1,7 +1,8 @@
 //! The search: the case lines, all small books around the ends of their budgets, random books.
 
+use cases::cost::{any_size, tame};
 use cases::line::{about, Call, Outcome};
-use cases::made::{book, name_all, small, tame, tree};
+use cases::made::{book, name_all, small, tree};
 use cases::random::Random;
 use second::book::Bounds;
 use second::candidate::count;
@@ -47,7 +48,7 @@ fn random_books() {
     for round in 0..3_000 {
         let (bounds, mut nodes) = made(&mut random, 1 + round % 64, &OPERATORS);
         let most = random.one_of(&[100, 10_000, 600_000]);
-        let visits = tame(&mut nodes, bounds[1], most);
+        let visits = tame(&mut nodes, bounds[1], any_size(bounds[1]), most);
         let limit = (VISITS / visits).clamp(1, 200_000);
         let room = usize::from(bounds[0] + bounds[1]) + random.below(3);
         same_search(&book(bounds, &nodes), limit, room);

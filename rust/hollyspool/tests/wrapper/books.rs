@@ -4,7 +4,9 @@ use std::collections::BTreeMap;
 
 use cases::made::{book, small, tree};
 use cases::random::Random;
-use hollyspool::{search, Book, Formula, Refusal, Unwritable, Verdict, MOST_NODES, NIL};
+use hollyspool::{
+    search, Book, Bounds, Formula, Refusal, Unwritable, Verdict, MOST_MODEL, MOST_NODES, NIL,
+};
 
 const OPERATORS: [u8; 10] = [1, 2, 3, 4, 5, 6, 7, 8, 9, 10];
 
@@ -14,7 +16,7 @@ const OPERATORS: [u8; 10] = [1, 2, 3, 4, 5, 6, 7, 8, 9, 10];
 fn there_and_back() {
     let mut random = Random::new(0xB00C);
     for round in 0..5_000 {
-        let [v, n, p] = [(); 3].map(|()| random.up_to(6));
+        let [v, n, p] = [(); 3].map(|()| random.up_to(Bounds::MOST));
         let nodes = tree(&mut random, v, 1 + round % MOST_NODES, &OPERATORS);
         let made = book([v, n, p], &nodes);
         let accepted = Book::accept(&made).expect("it is accepted");
@@ -30,10 +32,10 @@ fn there_and_back() {
 fn stray_as_the_search_says() {
     let mut random = Random::new(0x57A1);
     for round in 0..20_000 {
-        let [v, n, p] = [(); 3].map(|()| random.up_to(6));
+        let [v, n, p] = [(); 3].map(|()| random.up_to(Bounds::MOST));
         let nodes = tree(&mut random, v, 1 + round % 16, &OPERATORS);
         let book = Book::accept(&book([v, n, p], &nodes)).expect("it is accepted");
-        let searched = search(book.bytes(), 0, &mut [0; 12]).settled();
+        let searched = search(book.bytes(), 0, &mut [0; MOST_MODEL]).settled();
         let expected = match book.stray().first() {
             Some(&variable) => Err(Refusal::StrayVariable {
                 variable: variable.into(),
@@ -99,12 +101,12 @@ fn what_makes_no_book() {
             "the formula has 65 nodes, but a book has at most 64",
         ),
         (
-            Book::new(0, 7, 0, &empty),
+            Book::new(0, 9, 0, &empty),
             Unwritable::Bound {
                 name: 'n',
-                value: 7,
+                value: 9,
             },
-            "n is 7, but a bound is 0 to 6",
+            "n is 9, but a bound is 0 to 8",
         ),
         (
             Book::new(2, 2, 2, &empty.clone().star(Formula::List(1, 3))),

@@ -2,6 +2,7 @@
 
 mod books;
 mod candidates;
+mod eight;
 mod models;
 mod numbers;
 mod profiles;

@@ -2,7 +2,8 @@
 
 use std::fs;
 
-use cases::made::{book, name_all, small, tame, tree};
+use cases::cost::{any_size, tame};
+use cases::made::{book, name_all, small, tree};
 use cases::random::Random;
 use hollyspool::{judge, Book, Bounds, Refusal, Verdict, MOST_NODES};
 
@@ -68,7 +69,7 @@ fn random_books() {
         let [most, n, p] = [(); 3].map(|()| random.up_to(3));
         let mut nodes = tree(&mut random, most, 1 + round % 12, &OPERATORS);
         let v = name_all(&mut random, &mut nodes, most);
-        tame(&mut nodes, n, 1_000);
+        tame(&mut nodes, n, any_size(n), 1_000);
         let book = Book::accept(&book([v, n, p], &nodes)).expect("it is accepted");
         let Ok(back) = Back::of(&book) else { continue };
         for _ in 0..20 {

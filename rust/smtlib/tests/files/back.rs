@@ -2,7 +2,7 @@
 
 use cases::made::{book, small, tree};
 use cases::random::Random;
-use hollyspool::Book;
+use hollyspool::{Book, Bounds};
 use smtlib::{is_whole_file, translate, whole_file};
 
 /// The file of a book's text becomes that text again, with an equation for each declared variable
@@ -34,7 +34,7 @@ fn every_small_book() {
 fn random_books() {
     let mut random = Random::new(0xF11E);
     for round in 0..5_000 {
-        let v = random.up_to(6);
+        let v = random.up_to(Bounds::MOST);
         let nodes = tree(
             &mut random,
             v,

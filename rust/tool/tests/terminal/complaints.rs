@@ -118,9 +118,9 @@ const SHOWN: &[Shown] = &[
         "the end of the text",
     ),
     (
-        b"(and (pto a b) (and (pto c d) (and (pto e f) (pto g1 h))))",
-        [1, 51],
-        "too many names (28): g1 is the seventh, and a text has at most six",
+        b"(and (pto a b) (and (pto c d) (and (pto e f) (and (pto g h) (pto i1 j)))))",
+        [1, 66],
+        "too many names (28): i1 is the ninth, and a text has at most eight",
         "",
     ),
 ];

@@ -108,17 +108,17 @@ fn reach() {
         line.map(str::to_owned).expect("a line on the bounds")
     };
     assert_eq!(bounds(&[]), "bounds   v = 2, n = 4, p = 4");
-    assert_eq!(bounds(&["--n", "6"]), "bounds   v = 2, n = 6, p = 6");
+    assert_eq!(bounds(&["--n", "8"]), "bounds   v = 2, n = 8, p = 8");
     assert_eq!(bounds(&["--p", "1"]), "bounds   v = 2, n = 4, p = 1");
     assert_eq!(
         bounds(&["--n", "0", "--p", "5"]),
         "bounds   v = 2, n = 0, p = 5"
     );
-    let refused = run_on(b"?", &["search", "--text", "-", "--n", "7", "--p", "2"]);
+    let refused = run_on(b"?", &["search", "--text", "-", "--n", "9", "--p", "2"]);
     assert_eq!(refused.status, 3);
     assert_eq!(
         refused.err,
-        "hollyspool: refused with 12: n is 7 and p is 2, but each is at most 6\n"
+        "hollyspool: refused with 12: n is 9 and p is 2, but each is at most 8\n"
     );
 }
 

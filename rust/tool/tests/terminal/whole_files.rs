@@ -102,7 +102,7 @@ fn not_known() {
 /// What the proved import refuses of a body is shown in the body.
 #[test]
 fn a_body_that_is_refused() {
-    let names = ["a", "b", "c", "d", "e", "f", "G"];
+    let names = ["a", "b", "c", "d", "e", "f", "g", "h", "I"];
     let declared = names.map(|name| format!("(declare-const {name} Loc)"));
     let file = format!("{}(assert emp)", declared.concat());
     let refused = run_on(file.as_bytes(), &["search", "--text", "-"]);
@@ -110,9 +110,7 @@ fn a_body_that_is_refused() {
     let said = "<stdin> (translated):";
     assert!(refused.err.starts_with(said), "{}", refused.err);
     assert!(
-        refused
-            .err
-            .contains("too many names (28): g is the seventh"),
+        refused.err.contains("too many names (28): i is the ninth"),
         "{}",
         refused.err
     );
