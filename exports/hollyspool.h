@@ -45,7 +45,8 @@ enum hollyspool_number {
 #define HOLLYSPOOL_MOST_BOOK 206
 #define HOLLYSPOOL_MOST_TEXT 1906
 
-/* What every call but body answers; tried is 0 outside search. */
+/* What every call but body answers. For a search tried is how many candidates are settled, in their order: the lowest that
+ * fits is the last of them, or none of them fits; 0 outside search. */
 typedef struct {
     uint64_t number;
     uint64_t place;

@@ -66,7 +66,7 @@ chain-more k a b h ne z c =
     only′ ℓ f (no e) = let q = c .only ℓ (λ y. f (sym (without-there a h ℓ e) ∙ y)) in (suc (q .0), suc-le-suc (q .1), q .2)
 
 -- one link less in front
-chain-less : (k a b : ℕ) (h : Map) → Chain (suc k) a b h → Allocated h a × Chain k (pred (h a)) b (without a h)
+pub chain-less : (k a b : ℕ) (h : Map) → Chain (suc k) a b h → Allocated h a × Chain k (pred (h a)) b (without a h)
 chain-less k a b h c = (
   (λ e. let q = step in absurd (omega (arith, q, e))),
   record {

@@ -6,9 +6,9 @@ use cases::made::book;
 use hollyspool::{judge_in, search_in, Profile};
 use second::profile::Profile as Second;
 
-use crate::{
-    models, search_book, search_time, seconds, BOUNDS, FORMULAS, RUNS, SEARCHES, STACKS, TURN,
-};
+use crate::formulas::{BOUNDS, FORMULAS};
+use crate::judged::{models, seconds, RUNS, STACKS, TURN};
+use crate::searched::{search_book, search_time, SEARCHES};
 
 /// The proved bench in each profile, and the second one in the ordinary.
 type Sides = [f64; 3];

@@ -6,7 +6,8 @@ use std::time::Instant;
 use cases::made::{book, nested};
 use hollyspool::{Bounds, MOST_TEXT};
 
-use crate::{largest, stack, BOUNDS, FORMULAS, NESTED};
+use crate::formulas::{largest, BOUNDS, FORMULAS, NESTED};
+use crate::stack;
 
 /// Of so many runs the fastest counts.
 const RUNS: usize = 99;

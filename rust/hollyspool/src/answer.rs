@@ -16,7 +16,8 @@ pub struct Answer {
     /// The entry, the node or the byte that a refusal names, from 0, or the variable, from 1;
     /// otherwise 0.
     pub place: u64,
-    /// How many candidates a search has tried; 0 outside search.
+    /// How many candidates a search has settled, in their order: the lowest that fits is the last of
+    /// them, or none of them fits. 0 outside search.
     pub tried: u64,
 }
 

@@ -54,6 +54,28 @@ impl Model {
         self
     }
 
+    /// The candidate of a number below T.
+    pub fn candidate(bounds: Bounds, number: u64) -> Model {
+        let Bounds { v, n, .. } = bounds;
+        let mut model = Model::default();
+        let mut left = number;
+        let mut digit = |base: usize| {
+            let digit = left % base as u64;
+            left /= base as u64;
+            digit as u8
+        };
+        for location in 1..=n {
+            if let Some(value) = digit(n + 2).checked_sub(1) {
+                model.heap.value[location] = value;
+                model.heap.allocated |= 1 << location;
+            }
+        }
+        for variable in 1..=v {
+            model.stack[variable] = digit(n + 1);
+        }
+        model
+    }
+
     /// The candidate's number.
     pub fn number(&self, bounds: Bounds) -> u64 {
         let Bounds { v, n, .. } = bounds;

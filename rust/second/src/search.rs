@@ -28,7 +28,7 @@ fn searched(profile: Profile, book: &[u8], budget: u64, out: &mut [u8]) -> Resul
         .get_mut(..v + n)
         .ok_or(Answer::plain(Number::OutputShort))?;
     let total = count(book.bounds);
-    let (found, tried) = first_fit(profile, &book, total.min(budget));
+    let (found, tried) = first_fit(profile, &book, Model::default(), total.min(budget));
     Ok(match found {
         Some(model) => {
             model.write(book.bounds, out);
@@ -46,10 +46,15 @@ fn stray(book: &Book) -> Option<usize> {
         .find(|&variable| !atoms().any(|&[_, a, b]| [a, b].map(usize::from).contains(&variable)))
 }
 
-/// The first candidate that fits among the first `limit`, and how many were tried.
-fn first_fit(profile: Profile, book: &Book, limit: u64) -> (Option<Model>, u64) {
+/// The first candidate that fits among `limit` candidates from this one on, and how many were tried: each
+/// of them, one after the other.
+pub fn first_fit(
+    profile: Profile,
+    book: &Book,
+    mut candidate: Model,
+    limit: u64,
+) -> (Option<Model>, u64) {
     let (cells, locations) = (book.bounds.cells(), book.bounds.locations());
-    let mut candidate = Model::default();
     let mut tried = 0;
     loop {
         let judge = Judge::new(profile, book, candidate.stack);

@@ -106,6 +106,9 @@ fn stepped(case: &Case) -> Outcome {
     let bounds = Bounds { v, n, p };
     let model = Model::accept(bounds, &case.arg).expect("a candidate");
     let mut out = vec![0; v + n];
+    let number = model.number(bounds);
+    Model::candidate(bounds, number).write(bounds, &mut out);
+    assert_eq!(out, case.arg, "{}", case.source);
     model.next(bounds).write(bounds, &mut out);
-    Outcome::of(0, 0, model.number(bounds), out)
+    Outcome::of(0, 0, number, out)
 }

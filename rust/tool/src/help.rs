@@ -63,14 +63,14 @@ fn usage(command: Command) -> &'static str {
 const SEARCH: &str = "\
 hollyspool search FILE [--budget N] [--profile P] [--json]
 
-Tries the candidates in their order, the first N of them or all, and prints the lowest that fits.
+Settles the candidates in their order, the first N of them or all, and prints the lowest that fits.
 \"None\" speaks of the bounds: no model with v variables, n locations and no simple path over p links
 fits. It is never unsat. A book with a declared variable that no atom names is refused.
 
 A search that takes over a second reports on standard error. The search itself is one proved call
-and can't be looked into, so while it runs the candidates a second are measured on the side, by a
-short search of the first candidates, and the candidates tried and their share of T are estimates
-(\"about\"). The last report, when the search has ended, has the true figures.
+and can't be looked into; so beside it shorter searches settle the first candidates, twice as many
+each time, and the report says how many of them don't fit and which share of T they are. The last
+report, when the search has ended, has what is settled in all.
 ";
 
 const JUDGE: &str = "\

@@ -1,6 +1,5 @@
-//! The judge of assignments: the case lines, all assignments of small books, random ones.
+//! The judge of assignments: all assignments of small books, random ones.
 
-use cases::line::{about, Call, Outcome};
 use cases::made::{book, small, tree};
 use cases::random::Random;
 use second::assign::assign_in;
@@ -9,16 +8,6 @@ use crate::compare::{proved, MOST, PROFILES};
 
 /// Few negations, so that most books have an encoding.
 const OPERATORS: [u8; 16] = [1, 2, 3, 3, 4, 4, 5, 5, 6, 6, 7, 8, 9, 9, 10, 10];
-
-#[test]
-fn assign_lines() {
-    for case in about(Call::Assign) {
-        let (profile, _) = PROFILES[usize::from(case.ordinary)];
-        let answer = proved(hollyspool::assign_in(profile, &case.book, &case.arg));
-        let outcome = Outcome::of(answer.number, answer.place, answer.tried, Vec::new());
-        assert_eq!(outcome, case.outcome, "{}", case.source);
-    }
-}
 
 /// Over one location every byte is 0 or 1, and so an assignment is a number in binary.
 #[test]

@@ -5,6 +5,8 @@ use std::collections::BTreeSet;
 use cases::made::{book, small};
 use hollyspool::Profile;
 
+use crate::judge::models;
+
 #[test]
 fn satisfying_assignments_have_the_models_that_fit() {
     for [v, n] in [[0, 0], [0, 1], [0, 2], [1, 0], [1, 1], [1, 2]] {
@@ -56,21 +58,9 @@ fn satisfied(
     models
 }
 
-fn fitting(profile: Profile, [v, n, _]: [u8; 3], book: &[u8]) -> BTreeSet<Vec<u8>> {
-    let [v, n] = [v, n].map(usize::from);
-    let mut most = vec![n as u8; v];
-    most.resize(v + n, n as u8 + 1);
-    let mut models = BTreeSet::new();
-    for_each(&most, |digits| {
-        let mut model = digits.to_vec();
-        for cell in &mut model[v..] {
-            *cell = cell.wrapping_sub(1);
-        }
-        if hollyspool::judge_in(profile, book, &model).number == 0 {
-            models.insert(model);
-        }
-    });
-    models
+fn fitting(profile: Profile, bounds: [u8; 3], book: &[u8]) -> BTreeSet<Vec<u8>> {
+    let fits = |model: &Vec<u8>| hollyspool::judge_in(profile, book, model).number == 0;
+    models(bounds).into_iter().filter(fits).collect()
 }
 
 /// Each byte string that is as long as `most` and nowhere above it.

@@ -1,6 +1,5 @@
-//! The encoder: the case lines, all small books, random books at every length of output.
+//! The encoder: all small books, random books at every length of output.
 
-use cases::line::{about, Call, Outcome};
 use cases::made::{book, small, tree};
 use cases::random::Random;
 use hollyspool::MOST_ENCODED;
@@ -10,17 +9,6 @@ use crate::compare::{proved, MOST, PROFILES};
 
 /// Few negations, so that most books have an encoding.
 const OPERATORS: [u8; 16] = [1, 2, 3, 3, 4, 4, 5, 5, 6, 6, 7, 8, 9, 9, 10, 10];
-
-#[test]
-fn encode_lines() {
-    for case in about(Call::Encode) {
-        let mut out = case.buffer();
-        let (profile, _) = PROFILES[usize::from(case.ordinary)];
-        let answer = proved(hollyspool::encode_in(profile, &case.book, &mut out));
-        let outcome = Outcome::of(answer.number, answer.place, answer.tried, out);
-        assert_eq!(outcome, case.outcome, "{}", case.source);
-    }
-}
 
 #[test]
 fn every_small_book() {

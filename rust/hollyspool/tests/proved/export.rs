@@ -1,6 +1,5 @@
-//! The text of a book: the case lines, all small books, random books at every length of output.
+//! The text of a book: all small books, random books at every length of output.
 
-use cases::line::{about, Call, Outcome};
 use cases::made::{book, small, tree};
 use cases::random::Random;
 use hollyspool::MOST_TEXT;
@@ -9,16 +8,6 @@ use second::write::export;
 use crate::compare::{proved, MOST};
 
 const OPERATORS: [u8; 10] = [1, 2, 3, 4, 5, 6, 7, 8, 9, 10];
-
-#[test]
-fn export_lines() {
-    for case in about(Call::Export) {
-        let mut out = case.buffer();
-        let answer = proved(hollyspool::export(&case.book, &mut out));
-        let outcome = Outcome::of(answer.number, answer.place, answer.tried, out);
-        assert_eq!(outcome, case.outcome, "{}", case.source);
-    }
-}
 
 #[test]
 fn every_small_book() {

@@ -9,19 +9,6 @@ use hollyspool::{Book, MOST_BOOK};
 
 use crate::compare::proved;
 
-#[test]
-fn import_lines() {
-    for case in about(Call::Import) {
-        let [n, p] = [0, 1].map(|bound| case.arg[bound].into());
-        let mut out = case.buffer();
-        let answer = hollyspool::import(&case.book, n, p, &mut out);
-        let given = [answer.number, answer.place, answer.tried];
-        let outcome = case.outcome;
-        let expected = [outcome.number, outcome.place, outcome.tried];
-        assert_eq!((given, out), (expected, outcome.out), "{}", case.source);
-    }
-}
-
 /// The texts of the lines, cut at every length, and with every byte changed.
 #[test]
 fn damaged_texts() {

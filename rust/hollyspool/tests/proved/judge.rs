@@ -1,7 +1,6 @@
-//! The judge: the case lines, all small formulas on all their models, and random ones.
+//! The judge: all small formulas on all their models, and random ones.
 
 use cases::cost::{sizes, tame};
-use cases::line::{about, Call, Outcome};
 use cases::made::{book, small, tree};
 use cases::random::Random;
 use second::book::Bounds;
@@ -12,17 +11,7 @@ use second::model::{Model, UNALLOCATED};
 use crate::compare::{proved, MOST, PROFILES};
 
 /// Negations and septractions tell strong disjointness from plain, and so they come often.
-pub const OPERATORS: [u8; 16] = [1, 1, 2, 3, 3, 4, 5, 6, 7, 8, 8, 8, 9, 9, 10, 10];
-
-#[test]
-fn judge_lines() {
-    for case in about(Call::Judge) {
-        let (profile, _) = PROFILES[usize::from(case.ordinary)];
-        let answer = proved(hollyspool::judge_in(profile, &case.book, &case.arg));
-        let outcome = Outcome::of(answer.number, answer.place, answer.tried, Vec::new());
-        assert_eq!(outcome, case.outcome, "{}", case.source);
-    }
-}
+const OPERATORS: [u8; 16] = [1, 1, 2, 3, 3, 4, 5, 6, 7, 8, 8, 8, 9, 9, 10, 10];
 
 #[test]
 fn every_model_of_every_small_formula() {
@@ -42,12 +31,8 @@ fn random_formulas() {
     let mut random = Random::new(0x1DEA);
     for round in 0..20_000 {
         let bounds = [(); 3].map(|()| random.up_to(MOST));
-        let mut nodes = tree(&mut random, bounds[0], 1 + round % 64, &OPERATORS);
         let most = random.one_of(&[1_000, 20_000, 1_000_000]);
-        let models = [(); 8].map(|()| crowded(&mut random, bounds));
-        let sizes = sizes(bounds[0].into(), &models);
-        tame(&mut nodes, bounds[1], sizes, most);
-        let book = book(bounds, &nodes);
+        let (book, models) = crowded_models::<8>(&mut random, bounds, 1 + round % 64, most);
         for model in models {
             same_judging(&book, &model);
         }
@@ -60,15 +45,29 @@ fn random_formulas_of_few_nodes() {
     let mut random = Random::new(0xFE3);
     for round in 0..60_000 {
         let bounds = [random.up_to(3), random.up_to(MOST), random.up_to(MOST)];
-        let mut nodes = tree(&mut random, bounds[0], 3 + round % 8, &OPERATORS);
-        let models = [(); 8].map(|()| crowded(&mut random, bounds));
-        let sizes = sizes(bounds[0].into(), &models);
-        tame(&mut nodes, bounds[1], sizes, 100_000);
-        let book = book(bounds, &nodes);
+        let (book, models) = crowded_models::<8>(&mut random, bounds, 3 + round % 8, 100_000);
         for model in models {
             same_judging(&book, &model);
         }
     }
+}
+
+/// A random book of so many nodes, and crowded models on which judging it takes at most about so many visits.
+pub fn crowded_models<const COUNT: usize>(
+    random: &mut Random,
+    bounds: [u8; 3],
+    nodes: usize,
+    most: u64,
+) -> (Vec<u8>, [Vec<u8>; COUNT]) {
+    let models = [(); COUNT].map(|()| crowded(random, bounds));
+    let mut nodes = tree(random, bounds[0], nodes, &OPERATORS);
+    tame(
+        &mut nodes,
+        bounds[1],
+        sizes(bounds[0].into(), &models),
+        most,
+    );
+    (book(bounds, &nodes), models)
 }
 
 #[test]
@@ -108,24 +107,21 @@ fn small_bounds() -> impl Iterator<Item = [u8; 3]> {
     (0..27).map(|number| [number / 9, number / 3 % 3, number % 3])
 }
 
-/// The bytes of every model.
+/// The bytes of every model, in the order of candidates.
 pub fn models([v, n, p]: [u8; 3]) -> Vec<Vec<u8>> {
     let [v, n, p] = [v, n, p].map(usize::from);
     let bounds = Bounds { v, n, p };
-    let mut model = Model::default();
-    (0..count(bounds))
-        .map(|_| {
-            let mut bytes = vec![0; v + n];
-            model.write(bounds, &mut bytes);
-            model = model.next(bounds);
-            bytes
-        })
-        .collect()
+    let model = |number| {
+        let mut bytes = vec![0; v + n];
+        Model::candidate(bounds, number).write(bounds, &mut bytes);
+        bytes
+    };
+    (0..count(bounds)).map(model).collect()
 }
 
 /// A model with few unallocated locations, whose cells share two values and whose variables two
 /// locations, so that parts often meet, and at unnamed locations.
-pub fn crowded(random: &mut Random, [v, n, _]: [u8; 3]) -> Vec<u8> {
+fn crowded(random: &mut Random, [v, n, _]: [u8; 3]) -> Vec<u8> {
     let shared = [random.up_to(n), random.up_to(n)];
     let named = [random.up_to(n), random.up_to(n)];
     let mut model = Vec::new();

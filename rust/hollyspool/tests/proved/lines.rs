@@ -1,9 +1,42 @@
 //! The lines of the case files.
 
-use cases::line::{about, all, Call};
+use cases::line::{about, all, Call, Case, Outcome};
+use hollyspool::{assign_in, encode_in, export, import, judge_in, search_in};
 use second::answer::Answer;
 
-use crate::compare::{proved, same_reading};
+use crate::compare::{proved, same_reading, PROFILES};
+
+#[test]
+fn answers() {
+    for call in [
+        Call::Judge,
+        Call::Search,
+        Call::Encode,
+        Call::Assign,
+        Call::Import,
+        Call::Export,
+    ] {
+        for case in about(call) {
+            assert_eq!(outcome(&case), case.outcome, "{}", case.source);
+        }
+    }
+}
+
+fn outcome(case: &Case) -> Outcome {
+    let mut out = case.buffer();
+    let (book, arg) = (&case.book, &case.arg);
+    let (profile, _) = PROFILES[usize::from(case.ordinary)];
+    let answer = match case.call {
+        Call::Judge => judge_in(profile, book, arg),
+        Call::Search => search_in(profile, book, case.number, &mut out),
+        Call::Encode => encode_in(profile, book, &mut out),
+        Call::Assign => assign_in(profile, book, arg),
+        Call::Import => import(book, arg[0].into(), arg[1].into(), &mut out),
+        Call::Export => export(book, &mut out),
+        other => unreachable!("{other:?} has a test of its own"),
+    };
+    Outcome::of(answer.number, answer.place, answer.tried, out)
+}
 
 #[test]
 fn body_lines() {

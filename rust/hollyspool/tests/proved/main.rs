@@ -9,6 +9,7 @@ mod export;
 mod import;
 mod judge;
 mod lines;
+mod lowest;
 mod made;
 mod program;
 mod renumbered;

@@ -2,14 +2,13 @@
 
 use std::collections::BTreeMap;
 
-use cases::cost::{sizes, tame};
-use cases::made::{book, small, tree};
+use cases::made::{book, small};
 use cases::random::Random;
 use cases::renumber::{renumbered, renumbering, renumberings};
 use hollyspool::{judge_in, Profile};
 
 use crate::compare::MOST;
-use crate::judge::{crowded, models, OPERATORS};
+use crate::judge::{crowded_models, models};
 
 /// Every renumbering of every model of every small formula.
 #[test]
@@ -48,11 +47,7 @@ fn random_formulas() {
     let mut fits = [0; 2];
     for round in 0..20_000 {
         let bounds = [random.up_to(4), random.up_to(MOST), random.up_to(MOST)];
-        let mut nodes = tree(&mut random, bounds[0], 1 + round % 16, &OPERATORS);
-        let models = [(); 4].map(|()| crowded(&mut random, bounds));
-        let sizes = sizes(bounds[0].into(), &models);
-        tame(&mut nodes, bounds[1], sizes, 100_000);
-        let book = book(bounds, &nodes);
+        let (book, models) = crowded_models::<4>(&mut random, bounds, 1 + round % 16, 100_000);
         for model in models {
             let to = renumbering(&mut random, bounds[1]);
             let other = renumbered(bounds[0].into(), &model, &to);

@@ -1,46 +1,16 @@
-//! The search: the case lines, all small books around the ends of their budgets, random books.
+//! The search: random books, outputs that are too short.
 
 use cases::cost::{any_size, tame};
-use cases::line::{about, Call, Outcome};
-use cases::made::{book, name_all, small, tree};
+use cases::made::{book, name_all, tree};
 use cases::random::Random;
-use second::book::Bounds;
-use second::candidate::count;
-use second::search::{search, search_in};
+use second::search::search_in;
 
 use crate::compare::{proved, MOST, PROFILES};
 
-const OPERATORS: [u8; 16] = [1, 2, 2, 3, 3, 3, 4, 5, 5, 6, 7, 8, 9, 9, 9, 10];
+pub const OPERATORS: [u8; 16] = [1, 2, 2, 3, 3, 3, 4, 5, 5, 6, 7, 8, 9, 9, 9, 10];
 
 /// The node visits that one random search may take.
 const VISITS: u64 = 2_000_000;
-
-#[test]
-fn search_lines() {
-    for case in about(Call::Search) {
-        let mut out = case.buffer();
-        let (profile, _) = PROFILES[usize::from(case.ordinary)];
-        let answer = hollyspool::search_in(profile, &case.book, case.number, &mut out);
-        let answer = proved(answer);
-        let outcome = Outcome::of(answer.number, answer.place, answer.tried, out);
-        assert_eq!(outcome, case.outcome, "{}", case.source);
-    }
-}
-
-#[test]
-fn every_small_book() {
-    for number in 0..27 {
-        let bounds = [number / 9, number / 3 % 3, number % 3];
-        for nodes in small(bounds[0]) {
-            let book = book(bounds, &nodes);
-            let room = usize::from(bounds[0] + bounds[1]);
-            let first = search(&book, u64::MAX, &mut vec![0; room]).tried;
-            for budget in budgets(first, total(bounds)) {
-                same_search(&book, budget, room);
-            }
-        }
-    }
-}
 
 #[test]
 fn random_books() {
@@ -94,27 +64,4 @@ fn same_search(book: &[u8], budget: u64, room: usize) {
             "{budget} for {book:?} in {profile:?}"
         );
     }
-}
-
-/// Budgets around the first fit (0 where the book is refused) and around T, each once.
-fn budgets(first: u64, total: u64) -> Vec<u64> {
-    let mut budgets = vec![
-        0,
-        1,
-        first.saturating_sub(1),
-        first,
-        first + 1,
-        total - 1,
-        total,
-        total + 1,
-        u64::MAX,
-    ];
-    budgets.sort_unstable();
-    budgets.dedup();
-    budgets
-}
-
-fn total(bounds: [u8; 3]) -> u64 {
-    let [v, n, p] = bounds.map(usize::from);
-    count(Bounds { v, n, p })
 }

@@ -1,0 +1,2 @@
+pub mod Atoms
+pub mod AtomLaws

@@ -1,0 +1,4 @@
+pub mod NodeFacts
+pub mod NodeLaws
+pub mod RootFacts
+pub mod RootLaws

@@ -1,0 +1,5 @@
+pub mod Sweep
+pub mod SweepLaws
+pub mod StackLaws
+pub mod StartLaws
+pub mod ThroughLaws
