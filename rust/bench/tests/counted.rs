@@ -1,7 +1,7 @@
 //! The copy of the search's loop gives the second bench's answers, without trying each candidate.
 
 use cases::cost::{any_size, tame};
-use cases::made::{book, name_all, tree};
+use cases::made::{book, exchanged, name_all, tree};
 use cases::random::Random;
 use counted::{search, Counts};
 use second::answer::Answer;
@@ -42,14 +42,11 @@ fn random_books() {
     assert!(judged + blocks < tried / 10, "{judged} {blocks} {tried}");
 }
 
-/// The lowest fits of these are not passed over for an exchange of two locations: both are named; or the digit of one is still
-/// free where the other points to itself, as each cell does under path bound 0.
 #[test]
 fn exchanges() {
-    let named = [[3, 1, 1], [2, 1, 2], [9, 0, 1], [2, 2, 0], [9, 2, 3]];
-    let free = [[1, 0, 0], [8, 0, 0], [1, 0, 0], [8, 2, 0], [9, 1, 3]];
     for n in 2..=MOST {
-        for book in [book([2, n, n], &named), book([0, n, 0], &free)] {
+        for (bounds, nodes) in exchanged(n) {
+            let book = book(bounds, &nodes);
             let (answer, _) = same_answer(Profile::Ordinary, &book, u64::MAX);
             assert_eq!(answer.number, 0, "{book:?}");
         }

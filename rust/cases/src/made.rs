@@ -96,3 +96,12 @@ pub fn nested(operator: u8) -> Vec<[u8; 3]> {
     }
     nodes
 }
+
+/// Bounds and nodes of two books with n locations, 2 at least, whose lowest fits a search must not pass over for an exchange of
+/// two locations: both are named; or the digit of one is still free where the other points to itself, as each
+/// cell does under path bound 0. In the ordinary profile something fits each.
+pub fn exchanged(n: u8) -> [([u8; 3], [[u8; 3]; 5]); 2] {
+    let named = [[3, 1, 1], [2, 1, 2], [9, 0, 1], [2, 2, 0], [9, 2, 3]];
+    let free = [[1, 0, 0], [8, 0, 0], [1, 0, 0], [8, 2, 0], [9, 1, 3]];
+    [([2, n, n], named), ([0, n, 0], free)]
+}

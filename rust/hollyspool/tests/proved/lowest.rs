@@ -2,7 +2,7 @@
 //! at every budget that tells one from another.
 
 use cases::cost::{any_size, tame};
-use cases::made::{book, name_all, small, tree};
+use cases::made::{book, exchanged, name_all, small, tree};
 use cases::random::Random;
 use second::answer::{Answer, Number};
 use second::book::Bounds;
@@ -52,6 +52,16 @@ fn random_books() {
         }
     }
     assert!(answers.iter().all(|&count| count > 100), "{answers:?}");
+}
+
+#[test]
+fn exchanges() {
+    for n in 2..=4 {
+        for (bounds, nodes) in exchanged(n) {
+            let [_, ordinary] = same_at_every_budget(bounds, &nodes);
+            assert_eq!(ordinary, 1, "{bounds:?}");
+        }
+    }
 }
 
 /// Compares searches of a book, in each profile. Says whether something fits at candidate 0 (0), at a later
