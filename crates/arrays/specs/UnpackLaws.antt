@@ -7,7 +7,7 @@ use Rattle.std.proofs.lemmas.List.{get_or-replicate}
 use Rattle.std.proofs.Math.ListN.{get_or-eq_default}
 use Rattle.logic.specs.Tests.{pick}
 use Rattle.logic.specs.Book.{most}
-use Rattle.rows.specs.Assigned.{arrayIn}
+use Rattle.rows.specs.Assigned.{array_in}
 use Rattle.arrays.specs.Unpacked.{values_of}
 
 -- what holds of each entry below i, and of x at i, holds of each below i + 1 once x is stored at i
@@ -20,8 +20,8 @@ set_below P d l i x h all here k lt =
     (eq-or-lt_of_le (le_of_suc-le-suc (subst (λ (m : ℕ). k < m) (add-one i) lt)))
 
 -- what holds of each entry and of x holds of each entry once x is stored
-pub set-each : {A : Type 0} (P : A → Type 0) (d : A) (l : List A) (i n : ℕ) (x : A) → i < length l → ((k : ℕ) → k < n → P (get_or l k d)) → P x → (k : ℕ) → k < n → P (get_or (set l i x) k d)
-set-each P d l i n x h all here k lt = go (ℕ_discrete k i)
+pub set_each : {A : Type 0} (P : A → Type 0) (d : A) (l : List A) (i n : ℕ) (x : A) → i < length l → ((k : ℕ) → k < n → P (get_or l k d)) → P x → (k : ℕ) → k < n → P (get_or (set l i x) k d)
+set_each P d l i n x h all here k lt = go (ℕ_discrete k i)
   where
     go : Dec (k ≡ i) → P (get_or (set l i x) k d)
     go (yes e) = subst P (sym (ap (λ (m : ℕ). get_or (set l i x) m d) e ∙ get_or-set_same l i x d h)) here
@@ -52,10 +52,10 @@ pub rows_fit : (i n m : ℕ) → i < m → i * n + n ≤ m * n
 rows_fit i n m h = subst (λ (k : ℕ). k ≤ m * n) (suc-mul i n) (mul-le-mul_right n h)
 
 -- a row is its array
-pub row-array : (v n a at i : ℕ) (q r : List ℕ) → i < a → at ≡ v + i * n → ((j : ℕ) → get_or r j 0 ≡ pick (ltb j n) (get_or q (at + j) 0) 0) → values_of r ≡ arrayIn v n a q i
-unfolding values_of arrayIn
-row-array v n a at i q r l e f = fun_ext λ ℓ. go ℓ
+pub row_array : (v n a at i : ℕ) (q r : List ℕ) → i < a → at ≡ v + i * n → ((j : ℕ) → get_or r j 0 ≡ pick (ltb j n) (get_or q (at + j) 0) 0) → values_of r ≡ array_in v n a q i
+unfolding values_of array_in
+row_array v n a at i q r l e f = fun_ext λ ℓ. go ℓ
   where
-    go : (ℓ : ℕ) → values_of r ℓ ≡ arrayIn v n a q i ℓ
+    go : (ℓ : ℕ) → values_of r ℓ ≡ array_in v n a q i ℓ
     go zero = refl
     go (suc j) = f j ∙ rw (lt-ltb i a l, e)

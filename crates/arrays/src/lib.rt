@@ -2,7 +2,7 @@
 ghost use Rattle.std.specs.Prelude.{◌≡◌, ℕ, ◌+◌, ◌*◌, ◌≤◌, ltb, length, get_or};
 ghost use Rattle.logic.specs.Tests.{pick};
 ghost use Rattle.logic.specs.Book.{most};
-ghost use Rattle.rows.specs.Bounds.{mostArrays};
+ghost use Rattle.rows.specs.Bounds.{most_arrays};
 ghost use Rattle.arrays.specs.Unpacked.{Unpacked};
 
 use rows::{Arrays, Values};
@@ -23,7 +23,7 @@ fn row(q: &[u8], at: usize, n: usize) -> Values
 
 // The arrays, indexed by array number and then by location.
 pub fn unpack(q: &[u8], v: usize, n: usize, arrays: usize) -> Arrays
-    requires { (n ≤ most) × (arrays ≤ mostArrays) × (v + arrays * n ≤ length q.now) }
+    requires { (n ≤ most) × (arrays ≤ most_arrays) × (v + arrays * n ≤ length q.now) }
     ensures { Unpacked v n arrays q.now result }
 {
     let mut a = [[0u8; logic::MOST]; rows::ARRAYS];

@@ -7,8 +7,8 @@ ghost use Rattle.logic.specs.Tests.{pick};
 ghost use Rattle.logic.specs.Table.{op_of};
 ghost use Rattle.logic.specs.Book.{most, nodes};
 ghost use Rattle.logic.specs.Weight.{sum};
-ghost use Rattle.rows.specs.Bounds.{mostArrays, mostSets};
-ghost use Rattle.rows.specs.Assigned.{assignmentChecks};
+ghost use Rattle.rows.specs.Bounds.{most_arrays, most_sets};
+ghost use Rattle.rows.specs.Assigned.{assignment_checks};
 
 use leaves::{answer_of, long, wide};
 use logic::Answer;
@@ -52,8 +52,8 @@ fn is_value(base: usize, n: usize, top: u64, i: usize, x: u8) -> bool
 
 // Whether the bytes are an assignment over v variables, n locations, and so many arrays and sets: 21, 22.
 pub fn in_range(q: &[u8], v: usize, n: usize, arrays: usize, sets: usize) -> Answer
-    requires { (v ≤ most) × (n ≤ most) × (arrays ≤ mostArrays) × (sets ≤ mostSets) × (arrays * n ≤ mostArrays * most) }
-    ensures { Answers (assignmentChecks v n arrays sets q.now) Yes result }
+    requires { (v ≤ most) × (n ≤ most) × (arrays ≤ most_arrays) × (sets ≤ most_sets) × (arrays * n ≤ most_arrays * most) }
+    ensures { Answers (assignment_checks v n arrays sets q.now) Yes result }
 {
     let base = v + arrays * n;
     if q.len() != base + sets {

@@ -1,10 +1,10 @@
 // The facts of an atom at one location, from the locations of its variables.
 ghost use Rattle.std.specs.Prelude.{◌≡◌, true, suc, ◌^◌, ◌<◌, ◌≤◌};
 ghost use Rattle.logic.specs.Formula.Form.{same, diff, pts, ls};
-ghost use Rattle.logic.specs.Table.{atomOf};
+ghost use Rattle.logic.specs.Table.{atom_of};
 ghost use Rattle.cells.specs.Cells.{most};
 ghost use Rattle.skips.specs.Counts.{hit};
-ghost use Rattle.skips.specs.Facts.{pathCap};
+ghost use Rattle.skips.specs.Facts.{cap_of_path};
 ghost use Rattle.atomfacts.specs.Atoms.{AtomAs, Dropped, PointsSet, ListSet};
 
 use facts::{Fact, digit_bit};
@@ -50,7 +50,7 @@ fn one_if(x: u64, l: u64) -> u64
 }
 
 fn path_cap(a: u64, b: u64, l: u64) -> u64
-    ensures { (result ≡ pathCap a b l) × (result ≤ 2) }
+    ensures { (result ≡ cap_of_path a b l) × (result ≤ 2) }
 {
     1 + one_if(b, l) - one_if(a, l)
 }
@@ -122,7 +122,7 @@ fn list_fact(a: u64, b: u64, n: u64, l: u64) -> Fact
 // Operators 1 to 4, over variables whose locations are a and b.
 pub fn atom_fact(op: u8, a: u64, b: u64, n: u64, l: u64) -> Fact
     requires { (1 ≤ op) × (op ≤ 4) × (a ≤ n) × (b ≤ n) × (l ≤ n) × (n ≤ most) }
-    ensures { AtomAs (atomOf op) n l a b result }
+    ensures { AtomAs (atom_of op) n l a b result }
 {
     match op {
         1 => same_fact(a, b, n, l),

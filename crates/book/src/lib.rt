@@ -2,7 +2,7 @@
 ghost use Rattle.logic.specs.Numbers.{answer};
 ghost use Rattle.logic.specs.Checks.{Answers};
 ghost use Rattle.logic.specs.CheckLaws.{Yes};
-ghost use Rattle.logic.specs.Book.{bodyChecks, Reads, Opens};
+ghost use Rattle.logic.specs.Book.{body_checks, Reads, Opens};
 
 use contents::part;
 use leaves::{answer_of, long, wide};
@@ -12,7 +12,7 @@ use tree::one_parent;
 
 // Whether the bounds and the formula have the right lengths, and the bounds are in range.
 fn bodies(b: &[u8], f: &[u8]) -> u64
-    ensures { Answers (bodyChecks b.now f.now) Yes (answer result 0) }
+    ensures { Answers (body_checks b.now f.now) Yes (answer result 0) }
 {
     if b.len() != 3 {
         return logic::BOUNDS;

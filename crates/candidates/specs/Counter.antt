@@ -1,7 +1,7 @@
 -- The candidate that the code counts with: its number, and what one step does. Assumes nothing: these are definitions.
 use Rattle.std.specs.Prelude.{◌≡◌, ℕ, suc, ◌+◌, ◌%◌, ◌^◌, ◌≤◌}
 use Rattle.logic.specs.Heap.{Map, Stack, Heap}
-use Rattle.logic.specs.Candidates.{total, InBase, value_of, digitsOf, number_of}
+use Rattle.logic.specs.Candidates.{total, InBase, value_of, digits_of, number_of}
 use Rattle.cells.specs.Cells.{most, cells}
 use Rattle.skips.specs.Counts.{above}
 use Rattle.skips.specs.Blocks.{after}
@@ -23,12 +23,12 @@ pub record Bumps (b k j w r : ℕ) : Type 0 where
 
 -- r has the k lowest digits of x in base b
 abbrev pub Unpacks : ℕ → ℕ → ℕ → ℕ → Type 0
-Unpacks b k x r = (ℓ : ℕ) → cells r ℓ ≡ digitsOf b k x ℓ
+Unpacks b k x r = (ℓ : ℕ) → cells r ℓ ≡ digits_of b k x ℓ
 
 -- c is a stack and a heap of its bounds
 pub record WithinBounds (c : Candidate) : Type 0 where
-  pub fewVars : c.vars ≤ most
-  pub fewLocs : c.locs ≤ most
+  pub few_vars : c.vars ≤ most
+  pub few_locs : c.locs ≤ most
   pub stack : Stack c.vars c.locs (cells c.stack)
   pub heap : Heap c.locs (cells c.heap)
 
@@ -43,7 +43,7 @@ pub record Next (c r : Candidate) : Type 0 where
   pub vars : r.vars ≡ c.vars
   pub locs : r.locs ≡ c.locs
   pub number_is : number r ≡ (number c + 1) % total c.vars c.locs
-  pub stack-kept : ¬ (r.heap ≡ 0) → r.stack ≡ c.stack
+  pub stack_kept : ¬ (r.heap ≡ 0) → r.stack ≡ c.stack
 
 -- r is the first candidate after c's block of w
 pub record Passes (w : ℕ) (c r : Candidate) : Type 0 where
@@ -51,7 +51,7 @@ pub record Passes (w : ℕ) (c r : Candidate) : Type 0 where
   pub vars : r.vars ≡ c.vars
   pub locs : r.locs ≡ c.locs
   pub number_is : number r ≡ after w (number c) % total c.vars c.locs
-  pub stack-kept : ¬ (r.heap ≡ 0) → r.stack ≡ c.stack
+  pub stack_kept : ¬ (r.heap ≡ 0) → r.stack ≡ c.stack
 
 -- m with x added at each, as bytes
 unfoldable pub plus : ℕ → Map → Map

@@ -2,7 +2,7 @@
 // judge takes it.
 ghost use Rattle.std.specs.Prelude.{◌≡◌, ◌++◌, ◌+◌, ◌*◌, ◌^◌, ◌<◌, ◌≤◌, length, drop};
 ghost use Rattle.cells.specs.Cells.{most, cells};
-ghost use Rattle.logic.specs.Candidates.{InBase, total as total_of, bytesTo, modelBytes};
+ghost use Rattle.logic.specs.Candidates.{InBase, total as total_of, bytes_to, model_bytes};
 ghost use Rattle.candidates.specs.Counter.{Carries, Cleared, Bumps, Unpacks, WithinBounds, number, Next, Passes, plus};
 ghost use Rattle.skips.specs.Blocks.{weight, after};
 
@@ -122,7 +122,7 @@ impl Candidate {
     // The model's bytes, to the front of the output.
     pub fn write(self, out: &mut [u8])
         requires { WithinBounds self × (self.vars + self.locs ≤ length out.old) }
-        ensures { out.new ≡ modelBytes self.vars self.locs (cells self.stack) (cells self.heap) ++ drop (self.vars + self.locs) out.old }
+        ensures { out.new ≡ model_bytes self.vars self.locs (cells self.stack) (cells self.heap) ++ drop (self.vars + self.locs) out.old }
     {
         let v = self.vars as usize;
         put(out, self.stack, self.vars, 0);
@@ -133,7 +133,7 @@ impl Candidate {
 // The digits for 1 to k, each with x added, as bytes: with 255, digit 0 gives 255 and d > 0 gives d - 1.
 fn put(out: &mut [u8], w: u64, k: u64, x: u64)
     requires { (k ≤ most) × (k ≤ length out.old) × (x < 256) }
-    ensures { out.new ≡ bytesTo k (plus x (cells w)) ++ drop k out.old }
+    ensures { out.new ≡ bytes_to k (plus x (cells w)) ++ drop k out.old }
 {
     let mut i: u64 = 0;
     while i < k {

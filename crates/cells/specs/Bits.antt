@@ -11,16 +11,16 @@ use Rattle.std.specs.Int.Bits.{bit_and, bit_or, bit_xor, and_mod, or_mod, xor_mo
 use Rattle.std.proofs.lemmas.Nat.{and_shr, or_shr, xor_shr}
 use Rattle.logic.specs.Tests.{digit, pick}
 
-pub digit-zero : (b i : ℕ) → 0 < b → digit b 0 i ≡ 0
+pub digit_zero : (b i : ℕ) → 0 < b → digit b 0 i ≡ 0
 unfolding digit
-digit-zero b zero l = mod-eq_of_lt l
-digit-zero b (suc i) l = rw zero-div (digit-zero b i l)
+digit_zero b zero l = mod-eq_of_lt l
+digit_zero b (suc i) l = rw zero-div (digit_zero b i l)
 
-pub digit-past : (b k w i : ℕ) → 0 < b → w < b ^ k → k ≤ i → digit b w i ≡ 0
+pub digit_past : (b k w i : ℕ) → 0 < b → w < b ^ k → k ≤ i → digit b w i ≡ 0
 unfolding digit
-digit-past b zero w i l h e = rw (lt-one (rw pow-zero at h)) (digit-zero b i l)
-digit-past b (suc k) w zero l h e = absurd (not-suc-le-zero e)
-digit-past b (suc k) w (suc i) l h e = digit-past b k (w / b) i l ((div-lt_iff_lt-mul l).1 (rw pow-suc at h)) (le_of_suc-le-suc e)
+digit_past b zero w i l h e = rw (lt-one (rw pow-zero at h)) (digit_zero b i l)
+digit_past b (suc k) w zero l h e = absurd (not-suc-le-zero e)
+digit_past b (suc k) w (suc i) l h e = digit_past b k (w / b) i l ((div-lt_iff_lt-mul l).1 (rw pow-suc at h)) (le_of_suc-le-suc e)
 
 -- two numbers with the same digits are the same
 pub same_digits : (b k v w : ℕ) → 0 < b → v < b ^ k → w < b ^ k → ((i : ℕ) → i < k → digit b v i ≡ digit b w i) → v ≡ w
@@ -32,16 +32,16 @@ same_digits b (suc k) v w l p q e =
     ∙ div-add-mod' w b
 
 -- a digit, as code works it out
-pub digit-is : (b w i : ℕ) → w / b ^ i % b ≡ digit b w i
+pub digit_is : (b w i : ℕ) → w / b ^ i % b ≡ digit b w i
 unfolding digit
-digit-is b w zero = rw (pow-zero, div-one)
-digit-is b w (suc i) = rw (pow-succ', ← (div-div-eq-div-mul w b (b ^ i))) (digit-is b (w / b) i)
+digit_is b w zero = rw (pow-zero, div-one)
+digit_is b w (suc i) = rw (pow-succ', ← (div-div-eq-div-mul w b (b ^ i))) (digit_is b (w / b) i)
 
 -- the digits of a number that is moved down by j digits
-pub digit-shr : (b w j i : ℕ) → digit b (w / b ^ j) i ≡ digit b w (j + i)
+pub digit_shr : (b w j i : ℕ) → digit b (w / b ^ j) i ≡ digit b w (j + i)
 unfolding digit
-digit-shr b w zero i = rw (pow-zero, div-one, zero-add)
-digit-shr b w (suc j) i = rw (pow-succ', ← (div-div-eq-div-mul w b (b ^ j)), suc-add) (digit-shr b (w / b) j i)
+digit_shr b w zero i = rw (pow-zero, div-one, zero-add)
+digit_shr b w (suc j) i = rw (pow-succ', ← (div-div-eq-div-mul w b (b ^ j)), suc-add) (digit_shr b (w / b) j i)
 
 placed_at : (b d x : ℕ) → d < b → digit b (d * b ^ x) x ≡ d
 unfolding digit
@@ -52,23 +52,23 @@ placed_at b d (suc x) l =
 placed_off : (b d x i : ℕ) → d < b → ¬ (i ≡ x) → digit b (d * b ^ x) i ≡ 0
 unfolding digit
 placed_off b d zero zero l n = absurd (n refl)
-placed_off b d zero (suc i) l n = rw (pow-zero, mul-one, div-eq_of_lt l) (digit-zero b i (omega arith))
+placed_off b d zero (suc i) l n = rw (pow-zero, mul-one, div-eq_of_lt l) (digit_zero b i (omega arith))
 placed_off b d (suc x) zero l n = rw (pow-suc, ← (mul_assoc d (b ^ x) b)) (mul-mod_left (d * b ^ x) b)
 placed_off b d (suc x) (suc i) l n =
     rw (pow-suc, ← (mul_assoc d (b ^ x) b), mul-div_cancel (d * b ^ x) {n = b} (omega arith)) (placed_off b d x i l (λ (e : i ≡ x). n (ap suc e)))
 
 -- one digit in its place, and 0 in the others
-pub digit-placed : (b d x i : ℕ) → d < b → digit b (d * b ^ x) i ≡ pick (eqb i x) d 0
-digit-placed b d x i l = go (ℕ_discrete i x)
+pub digit_placed : (b d x i : ℕ) → d < b → digit b (d * b ^ x) i ≡ pick (eqb i x) d 0
+digit_placed b d x i l = go (ℕ_discrete i x)
   where
     go : Dec (i ≡ x) → digit b (d * b ^ x) i ≡ pick (eqb i x) d 0
     go (yes e) = rw (eq-eqb i x e, e) (placed_at b d x l)
     go (no n) = rw (ne_eqb i x n) (placed_off b d x i l n)
 
 -- bytes are moved by eight bits
-pub pow-bytes : (i : ℕ) → 2 ^ (8 * i) ≡ 256 ^ i
-pow-bytes zero = refl
-pow-bytes (suc i) = ap (λ (x : ℕ). 2 ^ x) (omega arith) ∙ pow-add 2 8 (8 * i) ∙ ap (λ (x : ℕ). 256 * x) (pow-bytes i) ∙ sym (pow-succ' 256 i)
+pub pow_bytes : (i : ℕ) → 2 ^ (8 * i) ≡ 256 ^ i
+pow_bytes zero = refl
+pow_bytes (suc i) = ap (λ (x : ℕ). 2 ^ x) (omega arith) ∙ pow-add 2 8 (8 * i) ∙ ap (λ (x : ℕ). 256 * x) (pow_bytes i) ∙ sym (pow-succ' 256 i)
 
 -- the bit operations go digit by digit, in a base that is a power of 2
 module _ (k : ℕ) where
@@ -82,10 +82,10 @@ module _ (k : ℕ) where
   digit_or a b zero = or_mod a b k
   digit_or a b (suc i) = ap (λ (q : ℕ). digit (2 ^ k) q i) (or_shr a b k) ∙ digit_or (a / 2 ^ k) (b / 2 ^ k) i
 
-  pub digit-xor : (a b i : ℕ) → digit (2 ^ k) (bit_xor a b) i ≡ bit_xor (digit (2 ^ k) a i) (digit (2 ^ k) b i)
+  pub digit_xor : (a b i : ℕ) → digit (2 ^ k) (bit_xor a b) i ≡ bit_xor (digit (2 ^ k) a i) (digit (2 ^ k) b i)
   unfolding digit
-  digit-xor a b zero = xor_mod a b k
-  digit-xor a b (suc i) = ap (λ (q : ℕ). digit (2 ^ k) q i) (xor_shr a b k) ∙ digit-xor (a / 2 ^ k) (b / 2 ^ k) i
+  digit_xor a b zero = xor_mod a b k
+  digit_xor a b (suc i) = ap (λ (q : ℕ). digit (2 ^ k) q i) (xor_shr a b k) ∙ digit_xor (a / 2 ^ k) (b / 2 ^ k) i
 
 -- where no digit overflows, a sum goes digit by digit
 module _ (b : ℕ) where
@@ -97,10 +97,10 @@ module _ (b : ℕ) where
       regroup : (p q r s : ℕ) → p * b + q + (r * b + s) ≡ (p + r) * b + (q + s)
       regroup p q r s = rw (add-mul p r b) (omega arith)
 
-  pub digit-sum : (x y : ℕ) → ((i : ℕ) → digit b x i + digit b y i < b) → (i : ℕ) → digit b (x + y) i ≡ digit b x i + digit b y i
+  pub digit_sum : (x y : ℕ) → ((i : ℕ) → digit b x i + digit b y i < b) → (i : ℕ) → digit b (x + y) i ≡ digit b x i + digit b y i
   unfolding digit
-  digit-sum x y h zero = (sum_low x y (h 0)).0
-  digit-sum x y h (suc i) = ap (λ (q : ℕ). digit b q i) (sum_low x y (h 0)).1 ∙ digit-sum (x / b) (y / b) (λ j. h (suc j)) i
+  digit_sum x y h zero = (sum_low x y (h 0)).0
+  digit_sum x y h (suc i) = ap (λ (q : ℕ). digit b q i) (sum_low x y (h 0)).1 ∙ digit_sum (x / b) (y / b) (λ j. h (suc j)) i
 
   pub sum_lt : (k x y : ℕ) → x < b ^ k → y < b ^ k → ((i : ℕ) → digit b x i + digit b y i < b) → x + y < b ^ k
   unfolding digit

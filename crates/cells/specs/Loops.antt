@@ -2,7 +2,7 @@
 -- definitions.
 use Rattle.std.specs.Prelude.{◌≡◌, true, ◌⊎◌, ℕ, suc, ◌+◌, ◌^◌, ◌<◌, ◌≤◌}
 use Rattle.logic.specs.Heap.{Heap, Value, Named}
-use Rattle.logic.specs.Tests.{inPart, chain}
+use Rattle.logic.specs.Tests.{in_part, chain}
 use Rattle.logic.specs.Reflect.{Is}
 use Rattle.cells.specs.Cells.{most, cells, Touches, Source}
 
@@ -13,12 +13,12 @@ LocationOf x i j = (y : ℕ) × (1 ≤ y) × (y ≤ i) × (cells x y ≡ j)
 -- m has the locations, up to n, of the variables of the stack s but the last i, which x packs; location j in bit j
 pub record Naming (v n s x i m : ℕ) : Type 0 where
   pub small : m < 2 ^ suc n
-  pub to : (j : ℕ) → suc j ≤ n → (inPart m (suc (suc j)) ≡ true) ⊎ LocationOf x i (suc j) → Named v (cells s) (suc j)
-  pub from : (j : ℕ) → suc j ≤ n → Named v (cells s) (suc j) → (inPart m (suc (suc j)) ≡ true) ⊎ LocationOf x i (suc j)
+  pub to : (j : ℕ) → suc j ≤ n → (in_part m (suc (suc j)) ≡ true) ⊎ LocationOf x i (suc j) → Named v (cells s) (suc j)
+  pub from : (j : ℕ) → suc j ≤ n → Named v (cells s) (suc j) → (in_part m (suc (suc j)) ≡ true) ⊎ LocationOf x i (suc j)
 
 -- t has the sets of w's cells below l, and nothing from l on
 unfoldable pub Tabling : ℕ → ℕ → ℕ → ℕ → Type 0
-Tabling u w l t = (ℓ j : ℕ) → Is (inPart (cells t ℓ) j) ((ℓ < l) × (Touches ℓ (cells w ℓ) j × (inPart u j ≡ true)))
+Tabling u w l t = (ℓ j : ℕ) → Is (in_part (cells t ℓ) j) ((ℓ < l) × (Touches ℓ (cells w ℓ) j × (in_part u j ≡ true)))
 
 -- what is left of the segment from a to b over w is one from x to b over g, of at most k links
 pub record Walk (n a b w k x g : ℕ) : Type 0 where
@@ -28,7 +28,7 @@ pub record Walk (n a b w k x g : ℕ) : Type 0 where
 
 -- digit d is noted in v, or is one of the digits of x that are left
 abbrev pub Noted : ℕ → ℕ → ℕ → Type 0
-Noted x v d = (inPart v (suc d) ≡ true) ⊎ ((ℓ : ℕ) × (cells x ℓ ≡ d))
+Noted x v d = (in_part v (suc d) ≡ true) ⊎ ((ℓ : ℕ) × (cells x ℓ ≡ d))
 
 -- v has the digits of w that x no longer has
 pub record Noting (w x v : ℕ) : Type 0 where

@@ -5,57 +5,57 @@ use Rattle.std.proofs.Math.Nat.{one-le-pow, pow-le-pow_right, pow-succ'}
 use Rattle.std.proofs.Math.Decide.{dec_lt, ℕ_discrete}
 use Rattle.std.proofs.Math.Arith.{digits_lt}
 use Rattle.std.specs.Int.Bits.{bit_and, bit_or, bit_xor}
-use Rattle.logic.specs.Tests.{andb, digit, pick, all, inPart}
+use Rattle.logic.specs.Tests.{andb, digit, pick, all, in_part}
 use Rattle.logic.specs.Digits.{digit_lt}
-use Rattle.logic.specs.Reflect.{is_all, is-self, is_eq, is_lt, is-and}
+use Rattle.logic.specs.Reflect.{is_all, is_self, is_eq, is_lt, is_and}
 use Rattle.cells.specs.Cells.{most, full, word, cells, Placed, Spread}
-use Rattle.cells.specs.Sets.{in-past}
-use Rattle.cells.specs.Bits.{digit-zero, digit-past, same_digits, digit-is, digit-placed, pow-bytes, digit_and, digit_or, digit-xor}
+use Rattle.cells.specs.Sets.{in_past}
+use Rattle.cells.specs.Bits.{digit_zero, digit_past, same_digits, digit_is, digit_placed, pow_bytes, digit_and, digit_or, digit_xor}
 
 byte_pos : 0 < 256
 byte_pos = omega arith
 
-pub cells-nil : (w : ℕ) → cells w 0 ≡ 0
+pub cells_nil : (w : ℕ) → cells w 0 ≡ 0
 unfolding cells
-cells-nil w = refl
+cells_nil w = refl
 
-pub cells-zero : (ℓ : ℕ) → cells 0 ℓ ≡ 0
+pub cells_zero : (ℓ : ℕ) → cells 0 ℓ ≡ 0
 unfolding cells
-cells-zero zero = refl
-cells-zero (suc i) = digit-zero 256 i byte_pos
+cells_zero zero = refl
+cells_zero (suc i) = digit_zero 256 i byte_pos
 
-pub cells-lt : (w ℓ : ℕ) → cells w ℓ < 256
+pub cells_lt : (w ℓ : ℕ) → cells w ℓ < 256
 unfolding cells
-cells-lt w zero = byte_pos
-cells-lt w (suc i) = digit_lt 256 w i byte_pos
+cells_lt w zero = byte_pos
+cells_lt w (suc i) = digit_lt 256 w i byte_pos
 
-pub cells-past : (w ℓ : ℕ) → w < word → most < ℓ → cells w ℓ ≡ 0
+pub cells_past : (w ℓ : ℕ) → w < word → most < ℓ → cells w ℓ ≡ 0
 unfolding cells
-cells-past w zero h l = refl
-cells-past w (suc i) h l = digit-past 256 most w i byte_pos h (le_of_suc-le-suc l)
+cells_past w zero h l = refl
+cells_past w (suc i) h l = digit_past 256 most w i byte_pos h (le_of_suc-le-suc l)
 
 -- two numbers that pack the same are the same
-pub same-cells : (v w : ℕ) → v < word → w < word → ((ℓ : ℕ) → cells v ℓ ≡ cells w ℓ) → v ≡ w
+pub same_cells : (v w : ℕ) → v < word → w < word → ((ℓ : ℕ) → cells v ℓ ≡ cells w ℓ) → v ≡ w
 unfolding cells
-same-cells v w p q e = same_digits 256 most v w byte_pos p q (λ i _. e (suc i))
+same_cells v w p q e = same_digits 256 most v w byte_pos p q (λ i _. e (suc i))
 
-pub cells-and : (a b ℓ : ℕ) → cells (bit_and a b) ℓ ≡ bit_and (cells a ℓ) (cells b ℓ)
+pub cells_and : (a b ℓ : ℕ) → cells (bit_and a b) ℓ ≡ bit_and (cells a ℓ) (cells b ℓ)
 unfolding cells
-cells-and a b zero = refl
-cells-and a b (suc i) = digit_and 8 a b i
+cells_and a b zero = refl
+cells_and a b (suc i) = digit_and 8 a b i
 
-pub cells-or : (a b ℓ : ℕ) → cells (bit_or a b) ℓ ≡ bit_or (cells a ℓ) (cells b ℓ)
+pub cells_or : (a b ℓ : ℕ) → cells (bit_or a b) ℓ ≡ bit_or (cells a ℓ) (cells b ℓ)
 unfolding cells
-cells-or a b zero = refl
-cells-or a b (suc i) = digit_or 8 a b i
+cells_or a b zero = refl
+cells_or a b (suc i) = digit_or 8 a b i
 
-pub cells-xor : (a b ℓ : ℕ) → cells (bit_xor a b) ℓ ≡ bit_xor (cells a ℓ) (cells b ℓ)
+pub cells_xor : (a b ℓ : ℕ) → cells (bit_xor a b) ℓ ≡ bit_xor (cells a ℓ) (cells b ℓ)
 unfolding cells
-cells-xor a b zero = refl
-cells-xor a b (suc i) = digit-xor 8 a b i
+cells_xor a b zero = refl
+cells_xor a b (suc i) = digit_xor 8 a b i
 
-same-suc : (i x : ℕ) → eqb i x ≡ eqb (suc i) (suc x)
-same-suc i x = go (ℕ_discrete i x)
+same_suc : (i x : ℕ) → eqb i x ≡ eqb (suc i) (suc x)
+same_suc i x = go (ℕ_discrete i x)
   where
     go : Dec (i ≡ x) → eqb i x ≡ eqb (suc i) (suc x)
     go (yes e) = eq-eqb i x e ∙ sym (eq-eqb (suc i) (suc x) (ap suc e))
@@ -71,20 +71,20 @@ unfolding cells digit
 next_field x i = refl
 
 -- ---- as code works it out
-pub cell-none : (w l : ℕ) → l ≡ 0 → 0 ≡ cells w l
-cell-none w l e = rw e (sym (cells-nil w))
+pub cell_none : (w l : ℕ) → l ≡ 0 → 0 ≡ cells w l
+cell_none w l e = rw e (sym (cells_nil w))
 
-pub cell-law : (w l : ℕ) → ¬ (l ≡ 0) → w / 2 ^ (8 * (l - 1)) % 256 ≡ cells w l
+pub cell_law : (w l : ℕ) → ¬ (l ≡ 0) → w / 2 ^ (8 * (l - 1)) % 256 ≡ cells w l
 unfolding cells
-cell-law w zero n = absurd (n refl)
-cell-law w (suc i) n = let e : suc i - 1 ≡ i = omega arith in rw (e, pow-bytes i) (digit-is 256 w i)
+cell_law w zero n = absurd (n refl)
+cell_law w (suc i) n = let e : suc i - 1 ≡ i = omega arith in rw (e, pow_bytes i) (digit_is 256 w i)
 
-pub placed-law : (d l : ℕ) → d < 256 → 1 ≤ l → l ≤ most → Placed d l ((d * 2 ^ (8 * (l - 1))) % word)
+pub placed_law : (d l : ℕ) → d < 256 → 1 ≤ l → l ≤ most → Placed d l ((d * 2 ^ (8 * (l - 1))) % word)
 unfolding cells
-placed-law d zero h n m ℓ = absurd (not-suc-le-zero n)
-placed-law d (suc x) h n m ℓ =
+placed_law d zero h n m ℓ = absurd (not-suc-le-zero n)
+placed_law d (suc x) h n m ℓ =
     let e : suc x - 1 ≡ x = omega arith in
-    rw (e, pow-bytes x, mod-eq_of_lt fits) (go ℓ)
+    rw (e, pow_bytes x, mod-eq_of_lt fits) (go ℓ)
   where
     fits : d * 256 ^ x < word
     fits =
@@ -93,10 +93,10 @@ placed-law d (suc x) h n m ℓ =
 
     go : (ℓ : ℕ) → cells (d * 256 ^ x) ℓ ≡ pick (eqb ℓ (suc x)) d 0
     go zero = rw (ne_eqb 0 (suc x) (λ e. absurd (omega arith)))
-    go (suc i) = digit-placed 256 d x i h ∙ ap (λ (b : Bool). pick b d 0) (same-suc i x)
+    go (suc i) = digit_placed 256 d x i h ∙ ap (λ (b : Bool). pick b d 0) (same_suc i x)
 
-pub bit-law : (l : ℕ) → l ≤ suc most → (1 * 2 ^ l) % word ≡ 2 ^ l
-bit-law l h = rw (one-mul (2 ^ l)) (mod-eq_of_lt (lt_of_le_of_lt (pow-le-pow_right {n = 2} (omega arith) h) (omega arith)))
+pub bit_law : (l : ℕ) → l ≤ suc most → (1 * 2 ^ l) % word ≡ 2 ^ l
+bit_law l h = rw (one-mul (2 ^ l)) (mod-eq_of_lt (lt_of_le_of_lt (pow-le-pow_right {n = 2} (omega arith) h) (omega arith)))
 
 -- spread's product, mask and product
 abbrev spread_of : ℕ → ℕ
@@ -104,29 +104,29 @@ spread_of m = bit_or (bit_and (m % 128 * 567382630219905) 282578800148737) (m / 
 
 -- at location ℓ, and for a set m, they are right
 spread_at : ℕ → ℕ → Bool
-spread_at m ℓ = eqb (cells (spread_of m) ℓ) (pick (inPart m ℓ) 255 0)
+spread_at m ℓ = eqb (cells (spread_of m) ℓ) (pick (in_part m ℓ) 255 0)
 
-spread-for : ℕ → Bool
-spread-for m = andb (ltb (spread_of m) word) (all (suc most) (spread_at m))
+spread_for : ℕ → Bool
+spread_for m = andb (ltb (spread_of m) word) (all (suc most) (spread_at m))
 
-spread-all : all full spread-for ≡ true
-unfolding all digit inPart cells spread_at spread-for
-spread-all = refl
+spread_all : all full spread_for ≡ true
+unfolding all digit in_part cells spread_at spread_for
+spread_all = refl
 
 module _ (m : ℕ) (h : m < full) where
-  checked : (spread_of m < word) × ((ℓ : ℕ) → ℓ < suc most → cells (spread_of m) ℓ ≡ pick (inPart m ℓ) 255 0)
-  unfolding spread_at spread-for
+  checked : (spread_of m < word) × ((ℓ : ℕ) → ℓ < suc most → cells (spread_of m) ℓ ≡ pick (in_part m ℓ) 255 0)
+  unfolding spread_at spread_for
   checked =
-      (is-and (ltb (spread_of m) word) (all (suc most) (spread_at m)) (is_lt (spread_of m) word)
-      (is_all (spread_at m) (λ ℓ. cells (spread_of m) ℓ ≡ pick (inPart m ℓ) 255 0) (suc most) (λ ℓ _. is_eq (cells (spread_of m) ℓ) (pick (inPart m ℓ) 255 0)))).to
-      ((is_all spread-for (λ i. spread-for i ≡ true) full (λ i _. is-self (spread-for i))).to spread-all m h)
+      (is_and (ltb (spread_of m) word) (all (suc most) (spread_at m)) (is_lt (spread_of m) word)
+      (is_all (spread_at m) (λ ℓ. cells (spread_of m) ℓ ≡ pick (in_part m ℓ) 255 0) (suc most) (λ ℓ _. is_eq (cells (spread_of m) ℓ) (pick (in_part m ℓ) 255 0)))).to
+      ((is_all spread_for (λ i. spread_for i ≡ true) full (λ i _. is_self (spread_for i))).to spread_all m h)
 
-  pub spread-small : spread_of m < word
-  spread-small = checked.0
+  pub spread_small : spread_of m < word
+  spread_small = checked.0
 
-  pub spread-law : Spread m (spread_of m)
-  spread-law ℓ = go (dec_lt ℓ (suc most))
+  pub spread_law : Spread m (spread_of m)
+  spread_law ℓ = go (dec_lt ℓ (suc most))
     where
-      go : Dec (ℓ < suc most) → cells (spread_of m) ℓ ≡ pick (inPart m ℓ) 255 0
+      go : Dec (ℓ < suc most) → cells (spread_of m) ℓ ≡ pick (in_part m ℓ) 255 0
       go (yes l) = checked.1 ℓ l
-      go (no l) = cells-past (spread_of m) ℓ spread-small (omega arith) ∙ sym (ap (λ (b : Bool). pick b 255 0) (in-past most m ℓ h (omega arith)))
+      go (no l) = cells_past (spread_of m) ℓ spread_small (omega arith) ∙ sym (ap (λ (b : Bool). pick b 255 0) (in_past most m ℓ h (omega arith)))

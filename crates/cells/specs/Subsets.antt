@@ -6,7 +6,7 @@ use Rattle.std.proofs.Math.Decide.{dec_lt}
 use Rattle.std.proofs.Math.Arith.{digits_div, digits_mod}
 use Rattle.std.specs.Int.Bits.{bit_and, and_step, and_zero_r}
 use Rattle.std.proofs.lemmas.Nat.{and_shr, and_mod, and_le_r}
-use Rattle.logic.specs.Tests.{andb, inPart}
+use Rattle.logic.specs.Tests.{andb, in_part}
 use Rattle.cells.specs.Cells.{Sub}
 use Rattle.cells.specs.Sets.{in_and, same_set}
 
@@ -19,14 +19,14 @@ half s a e = sym (and_shr s a 1) ∙ ap (λ (x : ℕ). x / 2) e
 odd : (s a : ℕ) → Sub s a → s % 2 ≤ a % 2
 odd s a e = le_trans (le_of_eq (sym (ap (λ (x : ℕ). x % 2) e) ∙ and_mod s a 1)) (and_le_r (s % 2) (a % 2))
 
-and-of : (x q r a : ℕ) → x ≡ q * 2 + r → r < 2 → bit_and x a ≡ bit_and q (a / 2) * 2 + min r (a % 2)
-and-of x q r a e l = rw e (and_step (q * 2 + r) a ∙ rw (digits_div q l, digits_mod q l))
+and_of : (x q r a : ℕ) → x ≡ q * 2 + r → r < 2 → bit_and x a ≡ bit_and q (a / 2) * 2 + min r (a % 2)
+and_of x q r a e l = rw e (and_step (q * 2 + r) a ∙ rw (digits_div q l, digits_mod q l))
 
-min-0 : (a : ℕ) → min 0 a ≡ 0
-min-0 a = native.Mathlib.Nat.zero-min a
+min_0 : (a : ℕ) → min 0 a ≡ 0
+min_0 a = native.Mathlib.Nat.zero_min a
 
-min-r : (r a : ℕ) → r ≤ a → min r a ≡ r
-min-r r a l = native.Mathlib.Nat.min-eq_left l
+min_r : (r a : ℕ) → r ≤ a → min r a ≡ r
+min_r r a l = native.Mathlib.Nat.min_eq_left l
 
 record Halves (k s a c : ℕ) : Type 0 where
   es : s / 2 * 2 + s % 2 ≡ s
@@ -66,7 +66,7 @@ comp (suc k) s a c f e =
     let lr : r < 2 = omega (arith, h.la, h.ls, h.ec) in
     let q : s + c ≡ (s / 2 + h.c') * 2 + r = omega (arith, h.la, h.ls, h.ec) in
     let m : min r (a % 2) ≡ s % 2 = low (s % 2) (a % 2) h.ls h.la in
-    and-of (s + c) (s / 2 + h.c') r a q lr ∙ ap₂ (λ (x y : ℕ). x * 2 + y) ih m ∙ es
+    and_of (s + c) (s / 2 + h.c') r a q lr ∙ ap₂ (λ (x y : ℕ). x * 2 + y) ih m ∙ es
   where
     low : (b d : ℕ) → b ≤ d → d < 2 → min (b + 1 - d) d ≡ b
     low zero zero l m = refl
@@ -88,19 +88,19 @@ stepped k s a c f e h = go (dec_lt (s % 2) (a % 2))
     go (yes l) =
         let q : s + c + 1 ≡ (s / 2 + h.c') * 2 + 1 = omega (arith, h.la, h.ls, h.ec, h.es) in
         let ih = comp k (s / 2) (a / 2) h.c' h.full h.sub in
-        let m : min 1 (a % 2) ≡ 1 = min-r 1 (a % 2) (omega arith) in
+        let m : min 1 (a % 2) ≡ 1 = min_r 1 (a % 2) (omega arith) in
         let z : s / 2 * 2 + 1 ≡ suc s = omega (arith, h.la, h.es) in
-        up (and-of (s + c + 1) (s / 2 + h.c') 1 a q (omega arith) ∙ ap₂ (λ (x y : ℕ). x * 2 + y) ih m ∙ z) l
+        up (and_of (s + c + 1) (s / 2 + h.c') 1 a q (omega arith) ∙ ap₂ (λ (x y : ℕ). x * 2 + y) ih m ∙ z) l
     go (no l) =
         let q : s + c + 1 ≡ (s / 2 + h.c' + 1) * 2 + 0 = omega (arith, h.la, h.ls, h.ec, h.es) in
-        on (and-of (s + c + 1) (s / 2 + h.c' + 1) 0 a q (omega arith) ∙ ap (λ (y : ℕ). bit_and (s / 2 + h.c' + 1) (a / 2) * 2 + y) (min-0 (a % 2)) ∙ omega arith) (omega (arith, h.ls))
+        on (and_of (s + c + 1) (s / 2 + h.c' + 1) 0 a q (omega arith) ∙ ap (λ (y : ℕ). bit_and (s / 2 + h.c' + 1) (a / 2) * 2 + y) (min_0 (a % 2)) ∙ omega arith) (omega (arith, h.ls))
 
 -- no subset lies between s and the next
-pub next-least : (k s a c t : ℕ) → c + a + 1 ≡ 2 ^ k → Sub s a → Sub t a → s < t → bit_and (s + c + 1) a ≤ t
-next-least zero s a c t f e d l = let z = none t a c f d in absurd (omega arith)
-next-least (suc k) s a c t f e d l =
+pub next_least : (k s a c t : ℕ) → c + a + 1 ≡ 2 ^ k → Sub s a → Sub t a → s < t → bit_and (s + c + 1) a ≤ t
+next_least zero s a c t f e d l = let z = none t a c f d in absurd (omega arith)
+next_least (suc k) s a c t f e d l =
     go (halves k s a c f e)
-    (λ h m. next-least k (s / 2) (a / 2) h.c' (t / 2) h.full h.sub (half t a d) m)
+    (λ h m. next_least k (s / 2) (a / 2) h.c' (t / 2) h.full h.sub (half t a d) m)
     (stepped k s a c f e (halves k s a c f e))
   where
     go : (h : Halves k s a c) → ((h : Halves k s a c) → s / 2 < t / 2 → bit_and (s / 2 + h.c' + 1) (a / 2) ≤ t / 2) → Stepped s a (bit_and (s + c + 1) a) (s / 2) (a / 2) (bit_and (s / 2 + h.c' + 1) (a / 2)) → bit_and (s + c + 1) a ≤ t
@@ -113,11 +113,11 @@ next-least (suc k) s a c t f e d l =
         omega (arith, et)
 
 -- and it is above s
-pub next-above : (k s a c : ℕ) → c + a + 1 ≡ 2 ^ k → Sub s a → s < a → s < bit_and (s + c + 1) a
-next-above zero s a c f e l = let p : 2 ^ 0 ≡ 1 = pow-zero 2 in absurd (omega arith)
-next-above (suc k) s a c f e l =
+pub next_above : (k s a c : ℕ) → c + a + 1 ≡ 2 ^ k → Sub s a → s < a → s < bit_and (s + c + 1) a
+next_above zero s a c f e l = let p : 2 ^ 0 ≡ 1 = pow-zero 2 in absurd (omega arith)
+next_above (suc k) s a c f e l =
     go (halves k s a c f e)
-    (λ h m. next-above k (s / 2) (a / 2) h.c' h.full h.sub m)
+    (λ h m. next_above k (s / 2) (a / 2) h.c' h.full h.sub m)
     (stepped k s a c f e (halves k s a c f e))
   where
     go : (h : Halves k s a c) → ((h : Halves k s a c) → s / 2 < a / 2 → s / 2 < bit_and (s / 2 + h.c' + 1) (a / 2)) → Stepped s a (bit_and (s + c + 1) a) (s / 2) (a / 2) (bit_and (s / 2 + h.c' + 1) (a / 2)) → s < bit_and (s + c + 1) a
@@ -127,13 +127,13 @@ next-above (suc k) s a c f e l =
         let i = ih h m in
         omega (arith, h.es, h.la, h.ls)
 
-and-twice : (p q : Bool) → andb (andb p q) q ≡ andb p q
-and-twice true true = refl
-and-twice true false = refl
-and-twice false q = refl
+and_twice : (p q : Bool) → andb (andb p q) q ≡ andb p q
+and_twice true true = refl
+and_twice true false = refl
+and_twice false q = refl
 
 -- and it is a subset
-pub and-sub : (k x a : ℕ) → a < 2 ^ k → Sub (bit_and x a) a
-and-sub k x a l =
+pub and_sub : (k x a : ℕ) → a < 2 ^ k → Sub (bit_and x a) a
+and_sub k x a l =
     same_set k (bit_and (bit_and x a) a) (bit_and x a) (lt_of_le_of_lt (and_le_r (bit_and x a) a) l) (lt_of_le_of_lt (and_le_r x a) l)
-    (λ ℓ. in_and (bit_and x a) a ℓ ∙ rw (in_and x a ℓ) (and-twice (inPart x ℓ) (inPart a ℓ)))
+    (λ ℓ. in_and (bit_and x a) a ℓ ∙ rw (in_and x a ℓ) (and_twice (in_part x ℓ) (in_part a ℓ)))

@@ -2,7 +2,7 @@
 ghost use Rattle.std.specs.Prelude.{◌≡◌, ◌+◌, ◌<◌};
 ghost use Rattle.logic.specs.Checks.{Answers};
 ghost use Rattle.logic.specs.CheckLaws.{Yes};
-ghost use Rattle.logic.specs.Book.{offset, size, stretch, contentsChecks, Given, Body, Placed};
+ghost use Rattle.logic.specs.Book.{offset, size, stretch, contents_checks, Given, Body, Placed};
 
 use entries::{entries, word_at};
 use leaves::answer_of;
@@ -18,7 +18,7 @@ pub struct Stretch {
 
 // Whether the contents are as stated: number 0, or the refusal of the first part that is not.
 pub fn check(book: &[u8]) -> Answer
-    ensures { Answers (contentsChecks book.now) Yes result }
+    ensures { Answers (contents_checks book.now) Yes result }
 {
     if book.len() < 11 {
         return answer_of(logic::BOOK_LENGTH, 0);

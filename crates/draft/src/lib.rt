@@ -1,12 +1,12 @@
 // The nodes of what has been read of a text, in order of completion. The table that holds them is lent.
 ghost use Rattle.std.specs.Prelude.{[], ◌∷◌, ◌+◌, ◌-◌, ◌<◌, ◌≤◌};
-ghost use Rattle.logic.specs.Book.{mostNodes};
+ghost use Rattle.logic.specs.Book.{most_nodes};
 ghost use Rattle.grammar.specs.Grammar.{adds};
 ghost use Rattle.grammar.specs.Phrase.{joins, relates};
-ghost use Rattle.grammar.specs.Phrase.Join.{wand-word};
+ghost use Rattle.grammar.specs.Phrase.Join.{wand_word};
 ghost use Rattle.grammar.specs.Listing.{listing};
-ghost use Rattle.grammar.specs.Meaning.{atomForm};
-ghost use Rattle.draft.specs.Drafts.{join_of, atomOf, joinTail, anyTail, Ready, Adds, NodesIs};
+ghost use Rattle.grammar.specs.Meaning.{atom_form};
+ghost use Rattle.draft.specs.Drafts.{join_of, atom_of, join_tail, any_tail, Ready, Adds, NodesIs};
 
 use logic::Table;
 
@@ -14,7 +14,7 @@ const MOST_NODES: usize = logic::TABLE / 3;
 
 // One node behind n others: how many there are then.
 fn with_node(table: &mut Table, n: usize, op: u8, a: u8, b: u8) -> usize
-    requires { Ready table.old n × (n < mostNodes) }
+    requires { Ready table.old n × (n < most_nodes) }
     ensures { Adds table.old n 1 (op ∷ a ∷ b ∷ []) result table.new }
 {
     let k = 3 * n;
@@ -46,7 +46,7 @@ pub fn denied(table: &mut Table, n: usize) -> usize
 // A wand: the negation of a septraction of the formula before node m with the negation of the last node.
 fn wand(table: &mut Table, n: usize, m: usize) -> usize
     requires { Ready table.old n × (0 < m) × (m < n) }
-    ensures { NodesIs table.old n 3 (joinTail wand-word m n) result table.new }
+    ensures { NodesIs table.old n 3 (join_tail wand_word m n) result table.new }
 {
     if MOST_NODES < n + 3 {
         return 0;
@@ -59,7 +59,7 @@ fn wand(table: &mut Table, n: usize, m: usize) -> usize
 // A list of two formulas, the first of which ends before node m, the second at the last.
 pub fn joined(table: &mut Table, n: usize, word: usize, m: usize) -> usize
     requires { Ready table.old n × (word < 4) × (0 < m) × (m < n) }
-    ensures { NodesIs table.old n (adds (joins (join_of word))) (joinTail (join_of word) m n) result table.new }
+    ensures { NodesIs table.old n (adds (joins (join_of word))) (join_tail (join_of word) m n) result table.new }
 {
     let a = (m - 1) as u8;
     let b = (n - 1) as u8;
@@ -74,7 +74,7 @@ pub fn joined(table: &mut Table, n: usize, word: usize, m: usize) -> usize
 // Operator 1 or 2 that holds on any heap.
 fn anywhere(table: &mut Table, n: usize, op: u8, x: u8, y: u8) -> usize
     requires { Ready table.old n }
-    ensures { NodesIs table.old n 4 (anyTail op x y n) result table.new }
+    ensures { NodesIs table.old n 4 (any_tail op x y n) result table.new }
 {
     if MOST_NODES < n + 4 {
         return 0;
@@ -88,7 +88,7 @@ fn anywhere(table: &mut Table, n: usize, op: u8, x: u8, y: u8) -> usize
 // A list of two terms.
 pub fn related(table: &mut Table, n: usize, word: usize, x: u8, y: u8) -> usize
     requires { Ready table.old n × (5 ≤ word) × (word < 9) }
-    ensures { NodesIs table.old n (adds (relates (atomOf word))) (listing n (atomForm (atomOf word) x y)) result table.new }
+    ensures { NodesIs table.old n (adds (relates (atom_of word))) (listing n (atom_form (atom_of word) x y)) result table.new }
 {
     match word {
         5 => anywhere(table, n, 1, x, y),

@@ -4,19 +4,19 @@ use Rattle.std.proofs.Common.{zero-le}
 use Rattle.logic.specs.declared.Profile.{Profile}
 use Rattle.logic.specs.Table.{tree}
 use Rattle.logic.specs.Book.{most, nodes, root, Known}
-use Rattle.logic.specs.KnownLaws.{last-node}
-use Rattle.rows.specs.Table.{rowsIn, arrays, sets}
-use Rattle.rows.specs.Bounds.{mostRows, mostArrays, mostSets}
+use Rattle.logic.specs.KnownLaws.{last_node}
+use Rattle.rows.specs.Table.{rows_in, arrays, sets}
+use Rattle.rows.specs.Bounds.{most_rows, most_arrays, most_sets}
 use Rattle.rows.specs.BoundsLaws as trees
 
 module _ (v : ℕ) (f : List ℕ) (w : Known v f) where
   -- with LONG and its AND
-  pub rows-most : (π : Profile) (n : ℕ) → n ≤ most → rowsIn π n (tree f (root f)) + 2 ≤ mostRows
-  rows-most π n low = trees.rows_few v n f (nodes f) w.sound w.tree (root f) (last-node v f w) w.few low π
+  pub rows_most : (π : Profile) (n : ℕ) → n ≤ most → rows_in π n (tree f (root f)) + 2 ≤ most_rows
+  rows_most π n low = trees.rows_few v n f (nodes f) w.sound w.tree (root f) (last_node v f w) w.few low π
 
   -- whatever the number of locations is
-  pub arrays-most : arrays (tree f (root f)) ≤ mostArrays
-  arrays-most = trees.arrays-few v 0 f (nodes f) w.sound w.tree (root f) (last-node v f w) w.few zero-le
+  pub arrays_most : arrays (tree f (root f)) ≤ most_arrays
+  arrays_most = trees.arrays_few v 0 f (nodes f) w.sound w.tree (root f) (last_node v f w) w.few zero-le
 
-  pub sets-most : sets (tree f (root f)) ≤ mostSets
-  sets-most = trees.sets-few v 0 f (nodes f) w.sound w.tree (root f) (last-node v f w) w.few zero-le
+  pub sets_most : sets (tree f (root f)) ≤ most_sets
+  sets_most = trees.sets_few v 0 f (nodes f) w.sound w.tree (root f) (last_node v f w) w.few zero-le

@@ -3,9 +3,9 @@ ghost use Rattle.std.specs.Prelude.{◌≡◌, ◌+◌, ◌≤◌, ◌<◌, leng
 ghost use Rattle.logic.specs.Table.{tree};
 ghost use Rattle.logic.specs.Book.{most, root, KnownTable};
 ghost use Rattle.rows.specs.Row.{bytes_of};
-ghost use Rattle.rows.specs.Table.{apartRows, rowsIn, table};
-ghost use Rattle.rows.specs.Bounds.{ownRows};
-ghost use Rattle.rows.specs.Output.{outBook, Encodes};
+ghost use Rattle.rows.specs.Table.{apart_row_count, rows_in, table};
+ghost use Rattle.rows.specs.Bounds.{own_row_count};
+ghost use Rattle.rows.specs.Output.{out_book, Encodes};
 ghost use Rattle.rowbytes.specs.Written.{put};
 ghost use Rattle.encoder.specs.Writable.{RoomTable, Writable};
 
@@ -21,7 +21,7 @@ use treerows::node;
 
 // How many rows APART and its AND are, where the profile asks for them.
 fn apart_rows(profile: Profile) -> u16
-    ensures { (result ≡ apartRows profile) × (result ≤ 2) }
+    ensures { (result ≡ apart_row_count profile) × (result ≤ 2) }
 {
     match profile {
         Profile::Strong => 2,
@@ -32,7 +32,7 @@ fn apart_rows(profile: Profile) -> u16
 // How many own rows a node has.
 fn own_rows(profile: Profile, op: u8, n: u8) -> u16
     requires { (1 ≤ op) × (op ≤ 10) × (n < 255) }
-    ensures { (result ≡ ownRows profile n op) × (result < 512) }
+    ensures { (result ≡ own_row_count profile n op) × (result < 512) }
 {
     match op {
         1..=3 => 3,
@@ -47,7 +47,7 @@ fn own_rows(profile: Profile, op: u8, n: u8) -> u16
 // How many rows the table has: those of the formula, LONG and its AND.
 fn row_count(profile: Profile, f: &[u8], n: u8) -> u16
     requires { KnownTable f.now × (n < 255) }
-    ensures { result ≡ rowsIn profile n (tree f.now (root f.now)) + 2 }
+    ensures { result ≡ rows_in profile n (tree f.now (root f.now)) + 2 }
 {
     let end = f.len() / 3;
     let mut r: u16 = 0;
@@ -76,7 +76,7 @@ fn put_table(out: &mut [u8], profile: Profile, f: &[u8], n: u8, p: u8)
 // Writes the whole book, of that many rows, to the front of the output.
 fn write(out: &mut [u8], profile: Profile, f: &[u8], v: u8, n: u8, p: u8, rows: u16)
     requires { Writable profile f.now n rows out.old }
-    ensures { out.new ≡ put 0 (outBook v n p (table profile n p (tree f.now (root f.now)))) out.old }
+    ensures { out.new ≡ put 0 (out_book v n p (table profile n p (tree f.now (root f.now)))) out.old }
 {
     put_head(out, 3, v, n, p, 10 * rows);
     put_table(&mut out[HEAD..], profile, f, n, p);

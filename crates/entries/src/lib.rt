@@ -3,7 +3,7 @@ ghost use Rattle.std.specs.Prelude.{◌≡◌, ◌+◌, ◌<◌, ◌≤◌, leng
 ghost use Rattle.logic.specs.Checks.{Answers, ◌then◌};
 ghost use Rattle.logic.specs.CheckLaws.{Yes};
 ghost use Rattle.logic.specs.Reflect.{Is};
-ghost use Rattle.logic.specs.Book.{word, KindOk, StretchOk, entryChecks};
+ghost use Rattle.logic.specs.Book.{word, KindOk, StretchOk, entry_checks};
 
 use leaves::{answer_of, wide};
 use logic::Answer;
@@ -51,7 +51,7 @@ fn is_second_placed(book: &[u8]) -> bool
 // Whether the two entries are as they should be, the first before the second, and the kind before offset and length at each.
 pub fn entries(book: &[u8]) -> Answer
     requires { 11 ≤ length book.now }
-    ensures { Answers (entryChecks book.now 0 then entryChecks book.now 1) Yes result }
+    ensures { Answers (entry_checks book.now 0 then entry_checks book.now 1) Yes result }
 {
     let first_kind = is_kind(book, 0);
     let first_placed = is_first_placed(book);

@@ -3,14 +3,14 @@ use Rattle.std.specs.Prelude.{◌≡◌, true, ◌⊎◌, ℕ, suc, ◌+◌, ◌
 use Rattle.logic.specs.declared.Profile.{Profile}
 use Rattle.logic.specs.Heap.{Map}
 use Rattle.logic.specs.Formula.{Form}
-use Rattle.logic.specs.Tests.{inPart}
+use Rattle.logic.specs.Tests.{in_part}
 use Rattle.cells.specs.Cells.{most}
 use Rattle.skips.specs.Facts.{Digits, Caps, Needs}
 use Rattle.facts.specs.declared.Fact.{Fact}
 
 -- bit d of the set m is set
 abbrev pub In : ℕ → ℕ → Type 0
-In m d = inPart m (suc d) ≡ true
+In m d = in_part m (suc d) ≡ true
 
 -- the numbers of a fact fit in an entry of the table that crate rootfacts fills
 pub record Small (r : Fact) : Type 0 where

@@ -8,192 +8,192 @@ use Rattle.logic.specs.declared.Profile.{Profile}
 use Rattle.logic.specs.Heap.{Map}
 use Rattle.logic.specs.Formula.{Form}
 use Rattle.logic.specs.Formula.Form.{conj, disj, sep, sept}
-use Rattle.logic.specs.Tests.{inPart, digit}
-use Rattle.logic.specs.Reflect.{is-self, is-and, is-or, false-true}
+use Rattle.logic.specs.Tests.{in_part, digit}
+use Rattle.logic.specs.Reflect.{is_self, is_and, is_or, false_true}
 use Rattle.cells.specs.Cells.{most, word}
-use Rattle.cells.specs.Sets.{in_and, in-or, in-nothing, in_all}
+use Rattle.cells.specs.Sets.{in_and, in_or, in_nothing, in_all}
 use Rattle.skips.specs.Counts.{smaller, larger}
-use Rattle.skips.specs.CountLaws.{smaller-is, larger-is}
+use Rattle.skips.specs.CountLaws.{smaller_is, larger_is}
 use Rattle.skips.specs.Facts.{Hopeless, Caps, Needs, AnyDigit, SepDigit, SeptDigit}
-use Rattle.skips.specs.DigitRules.{hopeless, digits-hopeless, digits_more, digits-any, digits-conj, digits-disj, digits-first, digits-second, digits-sep, digits-sept}
-use Rattle.skips.specs.BoundRules.{caps-hopeless, needs-hopeless, caps-more, caps-any, caps-conj, caps-disj, caps-sep, caps-sept, caps-first, caps-second, needs-more, needs-any, needs-conj, needs-disj, needs-sep, needs-sept, needs-first, needs-second}
+use Rattle.skips.specs.DigitRules.{hopeless, digits_hopeless, digits_more, digits_any, digits_conj, digits_disj, digits_first, digits_second, digits_sep, digits_sept}
+use Rattle.skips.specs.BoundRules.{caps_hopeless, needs_hopeless, caps_more, caps_any, caps_conj, caps_disj, caps_sep, caps_sept, caps_first, caps_second, needs_more, needs_any, needs_conj, needs_disj, needs_sep, needs_sept, needs_first, needs_second}
 use Rattle.facts.specs.declared.Fact.{Fact}
 use Rattle.facts.specs.Known.{In, Small, Known, JoinedAs, AnyAs, Together, Kept}
 
 -- ---- the smaller and the larger
 
-pub smaller-there : (a b : ℕ) → a < b → a ≡ smaller a b
+pub smaller_there : (a b : ℕ) → a < b → a ≡ smaller a b
 unfolding smaller
-smaller-there a b l = rw (lt-ltb a b l)
+smaller_there a b l = rw (lt-ltb a b l)
 
-pub smaller-elsewhere : (a b : ℕ) → b ≤ a → b ≡ smaller a b
+pub smaller_elsewhere : (a b : ℕ) → b ≤ a → b ≡ smaller a b
 unfolding smaller
-smaller-elsewhere a b l = rw (le-ltb a b l)
+smaller_elsewhere a b l = rw (le-ltb a b l)
 
-pub larger-there : (a b : ℕ) → a < b → b ≡ larger a b
+pub larger_there : (a b : ℕ) → a < b → b ≡ larger a b
 unfolding larger
-larger-there a b l = rw (lt-ltb a b l)
+larger_there a b l = rw (lt-ltb a b l)
 
-pub larger-elsewhere : (a b : ℕ) → b ≤ a → a ≡ larger a b
+pub larger_elsewhere : (a b : ℕ) → b ≤ a → a ≡ larger a b
 unfolding larger
-larger-elsewhere a b l = rw (le-ltb a b l)
+larger_elsewhere a b l = rw (le-ltb a b l)
 
 -- ---- bits
 
 pub in_both : (a b d : ℕ) → In a d → In b d → In (bit_and a b) d
-in_both a b d p q = in_and a b (suc d) ∙ (is-and (inPart a (suc d)) (inPart b (suc d)) (is-self (inPart a (suc d))) (is-self (inPart b (suc d)))).from (p, q)
+in_both a b d p q = in_and a b (suc d) ∙ (is_and (in_part a (suc d)) (in_part b (suc d)) (is_self (in_part a (suc d))) (is_self (in_part b (suc d)))).from (p, q)
 
 pub in_either : (a b d : ℕ) → In a d ⊎ In b d → In (bit_or a b) d
-in_either a b d p = in-or a b (suc d) ∙ (is-or (inPart a (suc d)) (inPart b (suc d)) (is-self (inPart a (suc d))) (is-self (inPart b (suc d)))).from p
+in_either a b d p = in_or a b (suc d) ∙ (is_or (in_part a (suc d)) (in_part b (suc d)) (is_self (in_part a (suc d))) (is_self (in_part b (suc d)))).from p
 
-pub in-none : (d : ℕ) → ¬ In 0 d
-in-none d p = false-true (sym (in-nothing (suc d)) ∙ p)
+pub in_none : (d : ℕ) → ¬ In 0 d
+in_none d p = false_true (sym (in_nothing (suc d)) ∙ p)
 
-in-first : (c : ℕ) → In c 0 → c % 2 ≡ 1
-unfolding inPart digit
-in-first c p = eqb-true (c % 2) 1 p
+in_first : (c : ℕ) → In c 0 → c % 2 ≡ 1
+unfolding in_part digit
+in_first c p = eqb-true (c % 2) 1 p
 
 pub in_one : In 1 0
-unfolding inPart digit
+unfolding in_part digit
 in_one = refl
 
-pub digit-bit-law : (d : ℕ) → d ≤ 15 → ((1 * 2 ^ d) % word ≡ 2 ^ d) × ((1 * 2 ^ d) % word < 2 ^ 16)
-digit-bit-law d h =
+pub digit_bit_law : (d : ℕ) → d ≤ 15 → ((1 * 2 ^ d) % word ≡ 2 ^ d) × ((1 * 2 ^ d) % word < 2 ^ 16)
+digit_bit_law d h =
     let m : 2 ^ d ≤ 2 ^ 15 = pow-le-pow_right {n = 2} (omega arith) h in
     let e : (1 * 2 ^ d) % word ≡ 2 ^ d = ap (λ (x : ℕ). x % word) (one-mul (2 ^ d)) ∙ mod-eq_of_lt (lt_of_le_of_lt m (omega arith)) in
     (e, subst (λ (x : ℕ). x < 2 ^ 16) (sym e) (lt_of_le_of_lt m (omega arith)))
 
-pub bit-some : (d p : ℕ) → p ≡ 2 ^ d → 1 ≤ p
-bit-some d p e = subst (λ (x : ℕ). 1 ≤ x) (sym e) (one-le-pow d 2 (omega arith))
+pub bit_some : (d p : ℕ) → p ≡ 2 ^ d → 1 ≤ p
+bit_some d p e = subst (λ (x : ℕ). 1 ≤ x) (sym e) (one-le-pow d 2 (omega arith))
 
 -- ---- m where c has digit 0
 
-pub kept-nothing : (m c : ℕ) → ¬ (c % 2 ≡ 1) → Kept m c 0
-kept-nothing m c f = record { small = omega arith; has = λ d p q. absurd (f (in-first c q)) }
+pub kept_nothing : (m c : ℕ) → ¬ (c % 2 ≡ 1) → Kept m c 0
+kept_nothing m c f = record { small = omega arith; has = λ d p q. absurd (f (in_first c q)) }
 
 -- ---- the connectives
 
 module _ (π : Profile) (v n : ℕ) (F : Form) (s : Map) (ℓ : ℕ) (few : n ≤ most) where
-  caps-together : (i j r : ℕ) → Together i j r → Caps π v n F s ℓ (i + j - 1) → Caps π v n F s ℓ r
-  caps-together i j r q f =
+  caps_together : (i j r : ℕ) → Together i j r → Caps π v n F s ℓ (i + j - 1) → Caps π v n F s ℓ r
+  caps_together i j r q f =
       ⊎_elim (λ (e : r ≡ i + j - 1). subst (Caps π v n F s ℓ) (sym e) f)
-      (λ (e : r ≡ 255). caps-more π v n s ℓ F (n + 1) r (omega arith) (caps-any π v n s ℓ F)) q.1
+      (λ (e : r ≡ 255). caps_more π v n s ℓ F (n + 1) r (omega arith) (caps_any π v n s ℓ F)) q.1
 
-  needs-together : (i j r : ℕ) → Together i j r → Needs π v n F s ℓ (i + j - 1) → Needs π v n F s ℓ r
-  needs-together i j r q f =
+  needs_together : (i j r : ℕ) → Together i j r → Needs π v n F s ℓ (i + j - 1) → Needs π v n F s ℓ r
+  needs_together i j r q f =
       ⊎_elim (λ (e : r ≡ i + j - 1). subst (Needs π v n F s ℓ) (sym e) f)
-      (λ (e : r ≡ 255). needs-more π v n s ℓ F 2 r (omega arith) (needs-any π v n s ℓ F)) q.1
+      (λ (e : r ≡ 255). needs_more π v n s ℓ F 2 r (omega arith) (needs_any π v n s ℓ F)) q.1
 
-smaller-low : (a b : ℕ) → a ≤ 255 → b ≤ 255 → smaller a b ≤ 255
-smaller-low a b l m = ⊎_elim (λ (e : smaller a b ≡ a). omega arith) (λ (e : smaller a b ≡ b). omega arith) (smaller-is a b)
+smaller_low : (a b : ℕ) → a ≤ 255 → b ≤ 255 → smaller a b ≤ 255
+smaller_low a b l m = ⊎_elim (λ (e : smaller a b ≡ a). omega arith) (λ (e : smaller a b ≡ b). omega arith) (smaller_is a b)
 
-larger-low : (a b : ℕ) → a ≤ 255 → b ≤ 255 → larger a b ≤ 255
-larger-low a b l m = ⊎_elim (λ (e : larger a b ≡ a). omega arith) (λ (e : larger a b ≡ b). omega arith) (larger-is a b)
+larger_low : (a b : ℕ) → a ≤ 255 → b ≤ 255 → larger a b ≤ 255
+larger_low a b l m = ⊎_elim (λ (e : larger a b ≡ a). omega arith) (λ (e : larger a b ≡ b). omega arith) (larger_is a b)
 
 -- where nothing holds, every fact is right
-pub hopeless-known : (π : Profile) (v n : ℕ) (F : Form) (s : Map) (ℓ : ℕ) (r : Fact) → Hopeless π v n F s → Known π v n F s ℓ r
-hopeless-known π v n F s ℓ r none =
+pub hopeless_known : (π : Profile) (v n : ℕ) (F : Form) (s : Map) (ℓ : ℕ) (r : Fact) → Hopeless π v n F s → Known π v n F s ℓ r
+hopeless_known π v n F s ℓ r none =
     record {
-      digits = digits-hopeless π v n s ℓ F (In r.digits) none;
-      caps = caps-hopeless π v n s ℓ F r.cap none;
-      needs = needs-hopeless π v n s ℓ F r.need none;
+      digits = digits_hopeless π v n s ℓ F (In r.digits) none;
+      caps = caps_hopeless π v n s ℓ F r.cap none;
+      needs = needs_hopeless π v n s ℓ F r.need none;
     }
 
 -- where no digit may stand, nothing holds
-pub no-digit-hopeless : (π : Profile) (v n : ℕ) (F : Form) (s : Map) (ℓ : ℕ) (r : Fact) → r.digits ≡ 0 → Known π v n F s ℓ r → Hopeless π v n F s
-no-digit-hopeless π v n F s ℓ r e q =
-    hopeless π v n s ℓ F (In r.digits) q.digits (λ d _ p. in-none d (subst (λ (x : ℕ). In x d) e p))
+pub no_digit_hopeless : (π : Profile) (v n : ℕ) (F : Form) (s : Map) (ℓ : ℕ) (r : Fact) → r.digits ≡ 0 → Known π v n F s ℓ r → Hopeless π v n F s
+no_digit_hopeless π v n F s ℓ r e q =
+    hopeless π v n s ℓ F (In r.digits) q.digits (λ d _ p. in_none d (subst (λ (x : ℕ). In x d) e p))
 
 module _ (a b : Fact) (sa : Small a) (sb : Small b) where
-  pub joined-conj : (y z : ℕ) → y ≡ smaller a.cap b.cap → z ≡ smaller a.need b.need → JoinedAs conj a b (record { digits = bit_and a.digits b.digits; cap = y; need = z })
-  joined-conj y z ey ez =
+  pub joined_conj : (y z : ℕ) → y ≡ smaller a.cap b.cap → z ≡ smaller a.need b.need → JoinedAs conj a b (record { digits = bit_and a.digits b.digits; cap = y; need = z })
+  joined_conj y z ey ez =
       record {
         small = record {
           digits = omega (arith, and_le_l a.digits b.digits, sa.digits);
-          cap = omega (arith, smaller-low a.cap b.cap sa.cap sb.cap);
-          need = omega (arith, smaller-low a.need b.need sa.need sb.need);
+          cap = omega (arith, smaller_low a.cap b.cap sa.cap sb.cap);
+          need = omega (arith, smaller_low a.need b.need sa.need sb.need);
         };
         known = λ π v n A B s ℓ few p q. record {
-          digits = digits_more π v n s ℓ (conj A B) (λ d. In a.digits d × In b.digits d) (In (bit_and a.digits b.digits)) (λ d _ w. in_both a.digits b.digits d w.0 w.1) (digits-conj π v n s ℓ A B (In a.digits) (In b.digits) p.digits q.digits);
-          caps = subst (Caps π v n (conj A B) s ℓ) (sym ey) (caps-conj π v n s ℓ A B a.cap b.cap p.caps q.caps);
-          needs = subst (Needs π v n (conj A B) s ℓ) (sym ez) (needs-conj π v n s ℓ A B a.need b.need p.needs q.needs);
+          digits = digits_more π v n s ℓ (conj A B) (λ d. In a.digits d × In b.digits d) (In (bit_and a.digits b.digits)) (λ d _ w. in_both a.digits b.digits d w.0 w.1) (digits_conj π v n s ℓ A B (In a.digits) (In b.digits) p.digits q.digits);
+          caps = subst (Caps π v n (conj A B) s ℓ) (sym ey) (caps_conj π v n s ℓ A B a.cap b.cap p.caps q.caps);
+          needs = subst (Needs π v n (conj A B) s ℓ) (sym ez) (needs_conj π v n s ℓ A B a.need b.need p.needs q.needs);
         };
       }
 
-  pub joined-disj : (y z : ℕ) → y ≡ larger a.cap b.cap → z ≡ larger a.need b.need → JoinedAs disj a b (record { digits = bit_or a.digits b.digits; cap = y; need = z })
-  joined-disj y z ey ez =
+  pub joined_disj : (y z : ℕ) → y ≡ larger a.cap b.cap → z ≡ larger a.need b.need → JoinedAs disj a b (record { digits = bit_or a.digits b.digits; cap = y; need = z })
+  joined_disj y z ey ez =
       record {
         small = record {
           digits = or_lt 16 a.digits b.digits sa.digits sb.digits;
-          cap = omega (arith, larger-low a.cap b.cap sa.cap sb.cap);
-          need = omega (arith, larger-low a.need b.need sa.need sb.need);
+          cap = omega (arith, larger_low a.cap b.cap sa.cap sb.cap);
+          need = omega (arith, larger_low a.need b.need sa.need sb.need);
         };
         known = λ π v n A B s ℓ few p q. record {
-          digits = digits_more π v n s ℓ (disj A B) (λ d. In a.digits d ⊎ In b.digits d) (In (bit_or a.digits b.digits)) (λ d _ w. in_either a.digits b.digits d w) (digits-disj π v n s ℓ A B (In a.digits) (In b.digits) p.digits q.digits);
-          caps = subst (Caps π v n (disj A B) s ℓ) (sym ey) (caps-disj π v n s ℓ A B a.cap b.cap p.caps q.caps);
-          needs = subst (Needs π v n (disj A B) s ℓ) (sym ez) (needs-disj π v n s ℓ A B a.need b.need p.needs q.needs);
+          digits = digits_more π v n s ℓ (disj A B) (λ d. In a.digits d ⊎ In b.digits d) (In (bit_or a.digits b.digits)) (λ d _ w. in_either a.digits b.digits d w) (digits_disj π v n s ℓ A B (In a.digits) (In b.digits) p.digits q.digits);
+          caps = subst (Caps π v n (disj A B) s ℓ) (sym ey) (caps_disj π v n s ℓ A B a.cap b.cap p.caps q.caps);
+          needs = subst (Needs π v n (disj A B) s ℓ) (sym ez) (needs_disj π v n s ℓ A B a.need b.need p.needs q.needs);
         };
       }
 
   -- a cannot hold: b's facts are those of both
-  pub joined-second : a.digits ≡ 0 → JoinedAs disj a b b
-  joined-second e =
+  pub joined_second : a.digits ≡ 0 → JoinedAs disj a b b
+  joined_second e =
       record {
         small = sb;
         known = λ π v n A B s ℓ few p q. record {
-          digits = digits-second π v n s ℓ A B (In b.digits) (no-digit-hopeless π v n A s ℓ a e p) q.digits;
-          caps = caps-second π v n s ℓ A B b.cap (no-digit-hopeless π v n A s ℓ a e p) q.caps;
-          needs = needs-second π v n s ℓ A B b.need (no-digit-hopeless π v n A s ℓ a e p) q.needs;
+          digits = digits_second π v n s ℓ A B (In b.digits) (no_digit_hopeless π v n A s ℓ a e p) q.digits;
+          caps = caps_second π v n s ℓ A B b.cap (no_digit_hopeless π v n A s ℓ a e p) q.caps;
+          needs = needs_second π v n s ℓ A B b.need (no_digit_hopeless π v n A s ℓ a e p) q.needs;
         };
       }
 
-  pub joined-first : b.digits ≡ 0 → JoinedAs disj a b a
-  joined-first e =
+  pub joined_first : b.digits ≡ 0 → JoinedAs disj a b a
+  joined_first e =
       record {
         small = sa;
         known = λ π v n A B s ℓ few p q. record {
-          digits = digits-first π v n s ℓ A B (In a.digits) (no-digit-hopeless π v n B s ℓ b e q) p.digits;
-          caps = caps-first π v n s ℓ A B a.cap (no-digit-hopeless π v n B s ℓ b e q) p.caps;
-          needs = needs-first π v n s ℓ A B a.need (no-digit-hopeless π v n B s ℓ b e q) p.needs;
+          digits = digits_first π v n s ℓ A B (In a.digits) (no_digit_hopeless π v n B s ℓ b e q) p.digits;
+          caps = caps_first π v n s ℓ A B a.cap (no_digit_hopeless π v n B s ℓ b e q) p.caps;
+          needs = needs_first π v n s ℓ A B a.need (no_digit_hopeless π v n B s ℓ b e q) p.needs;
         };
       }
 
-  pub joined-sep : (x y z w : ℕ) → Kept a.digits b.digits x → Kept b.digits a.digits y → Together a.cap b.cap z → Together a.need b.need w → JoinedAs sep a b (record { digits = bit_or x y; cap = z; need = w })
-  joined-sep x y z w kx ky tz tw =
+  pub joined_sep : (x y z w : ℕ) → Kept a.digits b.digits x → Kept b.digits a.digits y → Together a.cap b.cap z → Together a.need b.need w → JoinedAs sep a b (record { digits = bit_or x y; cap = z; need = w })
+  joined_sep x y z w kx ky tz tw =
       record {
         small = record { digits = or_lt 16 x y (omega (arith, kx.small, sa.digits)) (omega (arith, ky.small, sb.digits)); cap = tz.0; need = tw.0 };
         known = λ π v n A B s ℓ few p q. record {
-          digits = digits_more π v n s ℓ (sep A B) (SepDigit (In a.digits) (In b.digits)) (In (bit_or x y)) (λ d _ u. in_either x y d (⊎_elim (λ u. inl (kx.has d u.0 u.1)) (λ u. inr (ky.has d u.1 u.0)) u)) (digits-sep π v n s ℓ A B (In a.digits) (In b.digits) p.digits q.digits);
-          caps = caps-together π v n (sep A B) s ℓ few a.cap b.cap z tz (caps-sep π v n s ℓ A B a.cap b.cap p.caps q.caps);
-          needs = needs-together π v n (sep A B) s ℓ few a.need b.need w tw (needs-sep π v n s ℓ A B a.need b.need p.needs q.needs);
+          digits = digits_more π v n s ℓ (sep A B) (SepDigit (In a.digits) (In b.digits)) (In (bit_or x y)) (λ d _ u. in_either x y d (⊎_elim (λ u. inl (kx.has d u.0 u.1)) (λ u. inr (ky.has d u.1 u.0)) u)) (digits_sep π v n s ℓ A B (In a.digits) (In b.digits) p.digits q.digits);
+          caps = caps_together π v n (sep A B) s ℓ few a.cap b.cap z tz (caps_sep π v n s ℓ A B a.cap b.cap p.caps q.caps);
+          needs = needs_together π v n (sep A B) s ℓ few a.need b.need w tw (needs_sep π v n s ℓ A B a.need b.need p.needs q.needs);
         };
       }
 
-  pub joined-sept : (x y z w : ℕ) → Kept b.digits a.digits x → y ≤ 1 → (bit_and a.digits b.digits ≡ 0) ⊎ (y ≡ 1) → Together b.cap a.need z → Together b.need a.cap w → JoinedAs sept a b (record { digits = bit_or x y; cap = z; need = w })
-  joined-sept x y z w kx ly ey tz tw =
+  pub joined_sept : (x y z w : ℕ) → Kept b.digits a.digits x → y ≤ 1 → (bit_and a.digits b.digits ≡ 0) ⊎ (y ≡ 1) → Together b.cap a.need z → Together b.need a.cap w → JoinedAs sept a b (record { digits = bit_or x y; cap = z; need = w })
+  joined_sept x y z w kx ly ey tz tw =
       record {
         small = record { digits = or_lt 16 x y (omega (arith, kx.small, sb.digits)) (omega arith); cap = tz.0; need = tw.0 };
         known = λ π v n A B s ℓ few p q. record {
-          digits = digits_more π v n s ℓ (sept A B) (SeptDigit (In a.digits) (In b.digits)) (In (bit_or x y)) (λ d _ u. in_either x y d (⊎_elim (λ u. inl (kx.has d u.1 u.0)) (λ u. inr (met d u.0 u.1)) u)) (digits-sept π v n s ℓ A B (In a.digits) (In b.digits) p.digits q.digits);
-          caps = caps-together π v n (sept A B) s ℓ few b.cap a.need z tz (caps-sept π v n s ℓ A B a.need b.cap p.needs q.caps);
-          needs = needs-together π v n (sept A B) s ℓ few b.need a.cap w tw (needs-sept π v n s ℓ A B a.cap b.need p.caps q.needs);
+          digits = digits_more π v n s ℓ (sept A B) (SeptDigit (In a.digits) (In b.digits)) (In (bit_or x y)) (λ d _ u. in_either x y d (⊎_elim (λ u. inl (kx.has d u.1 u.0)) (λ u. inr (met d u.0 u.1)) u)) (digits_sept π v n s ℓ A B (In a.digits) (In b.digits) p.digits q.digits);
+          caps = caps_together π v n (sept A B) s ℓ few b.cap a.need z tz (caps_sept π v n s ℓ A B a.need b.cap p.needs q.caps);
+          needs = needs_together π v n (sept A B) s ℓ few b.need a.cap w tw (needs_sept π v n s ℓ A B a.cap b.need p.caps q.needs);
         };
       }
     where
       met : (d : ℕ) → d ≡ 0 → ((e : ℕ) × In a.digits e × In b.digits e) → In y d
       met d z u =
-          ⊎_elim (λ (k : bit_and a.digits b.digits ≡ 0). absurd (in-none u.0 (subst (λ (m : ℕ). In m u.0) k (in_both a.digits b.digits u.0 u.1 u.2))))
+          ⊎_elim (λ (k : bit_and a.digits b.digits ≡ 0). absurd (in_none u.0 (subst (λ (m : ℕ). In m u.0) k (in_both a.digits b.digits u.0 u.1 u.2))))
           (λ (k : y ≡ 1). subst (λ (m : ℕ). In y m) (sym z) (subst (λ (m : ℕ). In m 0) (sym k) in_one)) ey
 
 -- ---- any formula
 
-pub any-as : (n p : ℕ) → n ≤ most → (p ≡ 2 ^ (n + 2)) × (p < 2 ^ 16) → AnyAs n (record { digits = p - 1; cap = n + 1; need = 2 })
-any-as n p few q =
+pub any_as : (n p : ℕ) → n ≤ most → (p ≡ 2 ^ (n + 2)) × (p < 2 ^ 16) → AnyAs n (record { digits = p - 1; cap = n + 1; need = 2 })
+any_as n p few q =
     record {
       small = record { digits = omega (arith, q.1); cap = omega arith; need = omega arith };
       known = λ π v F s ℓ. record {
-        digits = digits_more π v n s ℓ F (AnyDigit n ℓ) (In (p - 1)) (λ d l _. ap (λ (x : ℕ). inPart (x - 1) (suc d)) q.0 ∙ in_all (n + 2) d (omega arith)) (digits-any π v n s ℓ F);
-        caps = caps-any π v n s ℓ F;
-        needs = needs-any π v n s ℓ F;
+        digits = digits_more π v n s ℓ F (AnyDigit n ℓ) (In (p - 1)) (λ d l _. ap (λ (x : ℕ). in_part (x - 1) (suc d)) q.0 ∙ in_all (n + 2) d (omega arith)) (digits_any π v n s ℓ F);
+        caps = caps_any π v n s ℓ F;
+        needs = needs_any π v n s ℓ F;
       };
     }

@@ -4,7 +4,7 @@ ghost use Rattle.std.specs.Prelude.{◌≡◌, ◌⊎◌, ◌^◌, ◌<◌, ◌�
 ghost use Rattle.logic.specs.Formula.Form.{conj, disj, sep, sept};
 ghost use Rattle.logic.specs.Table.{join_of};
 ghost use Rattle.cells.specs.Cells.{most};
-ghost use Rattle.skips.specs.Counts.{smaller as smallerOf, larger as largerOf};
+ghost use Rattle.skips.specs.Counts.{smaller as smaller_of, larger as larger_of};
 ghost use Rattle.facts.specs.Known.{Small, Kept, JoinedAs, AnyAs, Together};
 
 // Bit d of digits is set if digit d may stand; cap and need are the bounds of specs/Facts.antt in crate skips.
@@ -16,13 +16,13 @@ pub struct Fact {
 }
 
 fn smaller(a: u64, b: u64) -> u64
-    ensures { result ≡ smallerOf a b }
+    ensures { result ≡ smaller_of a b }
 {
     if a < b { a } else { b }
 }
 
 fn larger(a: u64, b: u64) -> u64
-    ensures { result ≡ largerOf a b }
+    ensures { result ≡ larger_of a b }
 {
     if a < b { b } else { a }
 }

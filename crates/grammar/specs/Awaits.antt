@@ -4,12 +4,12 @@ use Rattle.std.proofs.Math.Path.{refl}
 use Rattle.std.proofs.Common.{◌∙◌, eqb-true}
 use Prim.Native.Nat.{ℕ, suc, ◌+◌, ◌-◌, ◌<◌}
 use Rattle.logic.specs.Checks.{upto}
-use Rattle.grammar.specs.Phrase.{Word, joins, denies, relates, Term, Phrase, join, deny, relate, spelling, sep-nil, Name, choose}
+use Rattle.grammar.specs.Phrase.{Word, joins, denies, relates, Term, Phrase, join, deny, relate, spelling, sep_nil, Name, choose}
 use Rattle.grammar.specs.Grammar.{Event, deepest, Byte, Spelt, Blanks, Edge, Stands, Reads}
-use Rattle.grammar.specs.Grammar.Blanks.{no-blank}
-use Rattle.grammar.specs.Grammar.Reads.{a-join, a-denial, a-relation}
+use Rattle.grammar.specs.Grammar.Blanks.{no_blank}
+use Rattle.grammar.specs.Grammar.Reads.{a_join, a_denial, a_relation}
 use Rattle.grammar.specs.Places.{before}
-use Rattle.grammar.specs.Machine.{Frame, only_one, first_of, second-of, Spot, start, later, Mode, item, gap, empty, head, word, arg, name, nil, shut, over, shuts, dead}
+use Rattle.grammar.specs.Machine.{Frame, only_one, first_of, second_of, Spot, start, later, Mode, item, gap, empty, head, word, arg, name, nil, shut, over, shuts, dead}
 use Rattle.grammar.specs.Forward.{lettered}
 
 module _ (w : List ℕ) where
@@ -17,7 +17,7 @@ module _ (w : List ℕ) where
   unfoldable pub Tail : Bool → List Frame → ℕ → Type 0
   Tail e [] i = Blanks w i (length w)
   Tail e (only_one ∷ σ) i = (m : ℕ) × Blanks w i m × Byte w 41 m × Tail false σ (suc m)
-  Tail e (second-of c G ∷ σ) i = (m : ℕ) × Blanks w i m × Byte w 41 m × Tail false σ (suc m)
+  Tail e (second_of c G ∷ σ) i = (m : ℕ) × Blanks w i m × Byte w 41 m × Tail false σ (suc m)
   Tail e (first_of c ∷ σ) i =
       (F : Phrase) × (es : List Event) × (k : ℕ) × (l : ℕ) × (m : ℕ) × (e ≡ true → Edge w i) × Blanks w i k × Reads w (suc (length σ)) F k l es × Blanks w l m × Byte w 41 m × Tail false σ (suc m)
 
@@ -50,7 +50,7 @@ module _ (w : List ℕ) where
 
   -- the letters y make a name of x, or sep.nil
   abbrev pub Named : List ℕ → Spot → List Frame → ℕ → Type 0
-  Named x p σ i = (y : List ℕ) × (j : ℕ) × (Name (x ++ y) ⊎ (x ++ y ≡ sep-nil)) × Spelt w y i j × Rest p σ j
+  Named x p σ i = (y : List ℕ) × (j : ℕ) × (Name (x ++ y) ⊎ (x ++ y ≡ sep_nil)) × Spelt w y i j × Rest p σ j
 
   abbrev pub Awaits : Mode → ℕ → Type 0
   Awaits (item σ) i = Item σ i
@@ -65,9 +65,9 @@ module _ (w : List ℕ) where
   Awaits (over F) i = Blanks w i (length w)
   Awaits dead i = ⊥
 
-  pub by-pick : {T : Type 0} (c : Bool) (A B : Mode) (i : ℕ) → (c ≡ true → Awaits A i → T) → (c ≡ false → Awaits B i → T) → Awaits (choose c A B) i → T
-  by-pick true A B i f g h = f refl h
-  by-pick false A B i f g h = g refl h
+  pub by_pick : {T : Type 0} (c : Bool) (A B : Mode) (i : ℕ) → (c ≡ true → Awaits A i → T) → (c ≡ false → Awaits B i → T) → Awaits (choose c A B) i → T
+  by_pick true A B i f g h = f refl h
+  by_pick false A B i f g h = g refl h
 
   -- the last test
   pub by_only : {T : Type 0} (c : Bool) (A : Mode) (i : ℕ) → (c ≡ true → Awaits A i → T) → Awaits (choose c A dead) i → T
@@ -88,8 +88,8 @@ module _ (w : List ℕ) where
         events = _;
         from = i;
         upto = suc r.4;
-        skip = no-blank;
-        body = a-join (record { depth = h; opens = q; begins = k; ends = j; before = b; word = s; edge = e; between = it.skip; shuts = r.4; after = r.8; closes = r.9; last = refl }) it.body r.6 r.7;
+        skip = no_blank;
+        body = a_join (record { depth = h; opens = q; begins = k; ends = j; before = b; word = s; edge = e; between = it.skip; shuts = r.4; after = r.8; closes = r.9; last = refl }) it.body r.6 r.7;
         rest = r.10;
       }
   listed σ denies i k j h q b s (e, it) =
@@ -99,8 +99,8 @@ module _ (w : List ℕ) where
         events = _;
         from = i;
         upto = suc r.0;
-        skip = no-blank;
-        body = a-denial (record { depth = h; opens = q; begins = k; ends = j; before = b; word = s; edge = e; between = it.skip; shuts = r.0; after = r.1; closes = r.2; last = refl }) it.body;
+        skip = no_blank;
+        body = a_denial (record { depth = h; opens = q; begins = k; ends = j; before = b; word = s; edge = e; between = it.skip; shuts = r.0; after = r.1; closes = r.2; last = refl }) it.body;
         rest = r.3;
       }
   listed σ (relates c) i k j h q b s (e, a) =
@@ -111,7 +111,7 @@ module _ (w : List ℕ) where
         events = _;
         from = i;
         upto = suc z.0;
-        skip = no-blank;
-        body = a-relation (record { depth = h; opens = q; begins = k; ends = j; before = b; word = s; edge = e; between = a.3; shuts = z.0; after = z.1; closes = z.2; last = refl }) a.4 r.3 r.4 r.5;
+        skip = no_blank;
+        body = a_relation (record { depth = h; opens = q; begins = k; ends = j; before = b; word = s; edge = e; between = a.3; shuts = z.0; after = z.1; closes = z.2; last = refl }) a.4 r.3 r.4 r.5;
         rest = z.3;
       }

@@ -3,9 +3,9 @@
 use Rattle.std.specs.Prelude.{◌≡◌, Bool, true, List, [], ◌∷◌, ◌++◌, ℕ, suc, ◌+◌, ◌-◌, ◌<◌, eqb, length, get_or}
 use Prim.Native.Char.{code}
 use Rattle.logic.specs.Tests.{orb}
-use Rattle.grammar.specs.Phrase.{Join, Atom, Word, joins, denies, relates, Term, nil-term, name-term, Phrase, emp, join, deny, relate, spelling, sep-emp, sep-nil, Name}
-use Rattle.grammar.specs.Phrase.Join.{and_word, or_word, sep-word, wand-word}
-use Rattle.grammar.specs.Phrase.Atom.{equal_word, distinct-word, pto-word, ls-word}
+use Rattle.grammar.specs.Phrase.{Join, Atom, Word, joins, denies, relates, Term, nil_term, name_term, Phrase, emp, join, deny, relate, spelling, sep_emp, sep_nil, Name}
+use Rattle.grammar.specs.Phrase.Join.{and_word, or_word, sep_word, wand_word}
+use Rattle.grammar.specs.Phrase.Atom.{equal_word, distinct_word, pto_word, ls_word}
 
 -- What is finished on the way through a text, in the order of its bytes: a name, with its first byte and "the byte after it"; an
 -- item, with its last byte and the nodes that it adds
@@ -18,13 +18,13 @@ pub data Event : Type 0 where
 abbrev pub adds : Word → ℕ
 adds (joins and_word) = 1
 adds (joins or_word) = 1
-adds (joins sep-word) = 1
-adds (joins wand-word) = 3
+adds (joins sep_word) = 1
+adds (joins wand_word) = 3
 adds denies = 1
 adds (relates equal_word) = 4
-adds (relates distinct-word) = 4
-adds (relates pto-word) = 1
-adds (relates ls-word) = 1
+adds (relates distinct_word) = 4
+adds (relates pto_word) = 1
+adds (relates ls_word) = 1
 
 -- "to depth 16, the outermost being 1"
 abbrev pub deepest : ℕ
@@ -36,8 +36,8 @@ blank b = orb (eqb b (code " ")) (eqb b (code "\n"))
 
 -- what a term leaves behind
 abbrev pub seen : Term → ℕ → ℕ → List Event
-seen nil-term i j = []
-seen (name-term x) i j = named x i j ∷ []
+seen nil_term i j = []
+seen (name_term x) i j = named x i j ∷ []
 
 module _ (w : List ℕ) where
   -- byte b stands at i
@@ -51,21 +51,21 @@ module _ (w : List ℕ) where
 
   -- spaces and line feeds from i up to j
   pub data Blanks : ℕ → ℕ → Type 0 where
-    no-blank : {i : ℕ} → Blanks i i
-    a-blank : {b i j : ℕ} → blank b ≡ true → Byte b i → Blanks (suc i) j → Blanks i j
+    no_blank : {i : ℕ} → Blanks i i
+    a_blank : {b i j : ℕ} → blank b ≡ true → Byte b i → Blanks (suc i) j → Blanks i j
 
   -- "at least one where neither neighbour is a bracket": what ends before i and is no bracket has the text's end, a blank or a
   -- bracket behind it
   pub data Edge : ℕ → Type 0 where
-    at-end : Edge (length w)
-    at-blank : {b i : ℕ} → blank b ≡ true → Byte b i → Edge i
+    at_end : Edge (length w)
+    at_blank : {b i : ℕ} → blank b ≡ true → Byte b i → Edge i
     at_open : {i : ℕ} → Byte (code "(") i → Edge i
-    at-close : {i : ℕ} → Byte (code ")") i → Edge i
+    at_close : {i : ℕ} → Byte (code ")") i → Edge i
 
   -- a name or `sep.nil`
   pub data Stands : Term → ℕ → ℕ → Type 0 where
-    a_nil : {i j : ℕ} → Spelt sep-nil i j → Stands nil-term i j
-    a-name : {i j : ℕ} {x : List ℕ} → Name x → Spelt x i j → Stands (name-term x) i j
+    a_nil : {i j : ℕ} → Spelt sep_nil i j → Stands nil_term i j
+    a_name : {i j : ℕ} {x : List ℕ} → Name x → Spelt x i j → Stands (name_term x) i j
 
   -- "A list is in round brackets, its word first; spaces and line feeds may stand before, between and after all of these": a
   -- list inside d others, from i up to j, with the word c, and its items from k up to l
@@ -85,14 +85,14 @@ module _ (w : List ℕ) where
 
   -- a formula inside d lists, from i up to j, and what is finished on the way
   pub data Reads : ℕ → Phrase → ℕ → ℕ → List Event → Type 0 where
-    an-emp : {d i j : ℕ} → Spelt sep-emp i j → Edge j → Reads d emp i j (finished (j - 1) 1 ∷ [])
-    a-join : {d i k l j m n : ℕ} {c : Join} {F G : Phrase} {es fs : List Event} → Listed d (joins c) i k l j
+    an_emp : {d i j : ℕ} → Spelt sep_emp i j → Edge j → Reads d emp i j (finished (j - 1) 1 ∷ [])
+    a_join : {d i k l j m n : ℕ} {c : Join} {F G : Phrase} {es fs : List Event} → Listed d (joins c) i k l j
         → Reads (suc d) F k m es → Blanks m n → Reads (suc d) G n l fs
         → Reads d (join c F G) i j (es ++ (fs ++ (finished (j - 1) (adds (joins c)) ∷ [])))
-    a-denial : {d i k l j : ℕ} {F : Phrase} {es : List Event} → Listed d denies i k l j
+    a_denial : {d i k l j : ℕ} {F : Phrase} {es : List Event} → Listed d denies i k l j
         → Reads (suc d) F k l es
         → Reads d (deny F) i j (es ++ (finished (j - 1) (adds denies) ∷ []))
-    a-relation : {d i k l j m n : ℕ} {c : Atom} {x y : Term} → Listed d (relates c) i k l j
+    a_relation : {d i k l j m n : ℕ} {c : Atom} {x y : Term} → Listed d (relates c) i k l j
         → Stands x k m → m < n → Blanks m n → Stands y n l
         → Reads d (relate c x y) i j (seen x k m ++ (seen y n l ++ (finished (j - 1) (adds (relates c)) ∷ [])))
 

@@ -35,5 +35,5 @@ listing k (sep a b) = both 9 (k + size_of a) (k + size_of a + size_of b) (listin
 listing k (sept a b) = both 10 (k + size_of a) (k + size_of a + size_of b) (listing k a) (listing (k + size_of a) b)
 
 -- the book of a formula
-unfoldable pub bookOf : ℕ → ℕ → ℕ → Form → List ℕ
-bookOf v n p F = head_of 2 v n p (3 * size_of F) ++ listing 0 F
+unfoldable pub book_of : ℕ → ℕ → ℕ → Form → List ℕ
+book_of v n p F = head_of 2 v n p (3 * size_of F) ++ listing 0 F

@@ -1,16 +1,16 @@
 -- The same texts byte by byte, with a stack of the lists that are open. Assumes nothing: these are definitions.
 use Rattle.std.specs.Prelude.{Bool, true, false, not, List, [], ◌∷◌, ◌++◌, ℕ, suc, ◌+◌, ◌-◌, eqb, leb, ltb, length, get_or, drop}
-use Rattle.logic.specs.Tests.{andb, orb, sameBytes}
-use Rattle.grammar.specs.Phrase.{bytes, choose, Join, Atom, Word, joins, denies, relates, Term, nil-term, name-term, Phrase, emp, join, deny, relate, spelling, lower, letter, longest}
-use Rattle.grammar.specs.Phrase.Join.{and_word, or_word, sep-word, wand-word}
-use Rattle.grammar.specs.Phrase.Atom.{equal_word, distinct-word, pto-word, ls-word}
+use Rattle.logic.specs.Tests.{andb, orb, same_bytes}
+use Rattle.grammar.specs.Phrase.{bytes, choose, Join, Atom, Word, joins, denies, relates, Term, nil_term, name_term, Phrase, emp, join, deny, relate, spelling, lower, letter, longest}
+use Rattle.grammar.specs.Phrase.Join.{and_word, or_word, sep_word, wand_word}
+use Rattle.grammar.specs.Phrase.Atom.{equal_word, distinct_word, pto_word, ls_word}
 use Rattle.grammar.specs.Grammar.{Event, named, finished, adds, deepest, blank}
 
 -- an open list: it waits for its only formula, for its first, for its second
 pub data Frame : Type 0 where
   only_one : Frame
   first_of : Join → Frame
-  second-of : Join → Phrase → Frame
+  second_of : Join → Phrase → Frame
 
 -- where a term stands: first in its list, or after the term x
 pub data Spot : Type 0 where
@@ -32,12 +32,12 @@ pub data Mode : Type 0 where
 
 abbrev pub words : List Word
 words =
-    joins and_word ∷ joins or_word ∷ joins sep-word ∷ joins wand-word ∷ denies ∷ relates equal_word ∷ relates distinct-word ∷
-    relates pto-word ∷ relates ls-word ∷ []
+    joins and_word ∷ joins or_word ∷ joins sep_word ∷ joins wand_word ∷ denies ∷ relates equal_word ∷ relates distinct_word ∷
+    relates pto_word ∷ relates ls_word ∷ []
 
 unfoldable pub among : List Word → List ℕ → Bool
 among [] x = false
-among (c ∷ cs) x = let r = among cs x in orb (sameBytes (spelling c) x) r
+among (c ∷ cs) x = let r = among cs x in orb (same_bytes (spelling c) x) r
 
 -- x is one of the words
 abbrev pub reserved : List ℕ → Bool
@@ -51,9 +51,9 @@ viable x = orb (ltb (length x) longest) (andb (eqb (length x) longest) (not (res
 abbrev pub past : Bool → Phrase → List Frame → Mode
 past e F [] = over F
 past e F (only_one ∷ σ) = shut (deny F) σ
-past true F (first_of c ∷ σ) = gap (second-of c F ∷ σ)
-past false F (first_of c ∷ σ) = item (second-of c F ∷ σ)
-past e F (second-of c G ∷ σ) = shut (join c G F) σ
+past true F (first_of c ∷ σ) = gap (second_of c F ∷ σ)
+past false F (first_of c ∷ σ) = item (second_of c F ∷ σ)
+past e F (second_of c G ∷ σ) = shut (join c G F) σ
 
 abbrev pub termed : Term → Spot → List Frame → Mode
 termed x (start c) σ = arg (later c x) σ
@@ -89,10 +89,10 @@ step (word w (c ∷ r) σ) b = choose (eqb b c) (word w r σ) dead
 step (arg p σ) b = choose (blank b) (arg p σ) (choose (lower b) (name (b ∷ []) p σ) dead)
 step (name x p σ) b =
     choose (letter b) (choose (viable (x ++ (b ∷ []))) (name (x ++ (b ∷ [])) p σ) dead)
-    (choose (eqb b 46) (choose (sameBytes (spelling (joins sep-word)) x) (nil (bytes "nil") p σ) dead)
-    (choose (reserved x) dead (choose (blank b) (termed (name-term x) p σ) (choose (eqb b 41) (closing (name-term x) p σ) dead))))
+    (choose (eqb b 46) (choose (same_bytes (spelling (joins sep_word)) x) (nil (bytes "nil") p σ) dead)
+    (choose (reserved x) dead (choose (blank b) (termed (name_term x) p σ) (choose (eqb b 41) (closing (name_term x) p σ) dead))))
 step (nil (c ∷ r) p σ) b = choose (eqb b c) (nil r p σ) dead
-step (nil [] p σ) b = choose (blank b) (termed nil-term p σ) (choose (eqb b 41) (closing nil-term p σ) dead)
+step (nil [] p σ) b = choose (blank b) (termed nil_term p σ) (choose (eqb b 41) (closing nil_term p σ) dead)
 step (shut F σ) b = choose (blank b) (shut F σ) (choose (eqb b 41) (past false F σ) dead)
 step (over F) b = choose (blank b) (over F) dead
 step dead b = dead

@@ -16,11 +16,11 @@ choose false a b = b
 
 -- "`and`, `or`, `sep`, `wand` over two formulas"
 pub data Join : Type 0 where
-  and_word or_word sep-word wand-word : Join
+  and_word or_word sep_word wand_word : Join
 
 -- "`=`, `distinct`, `pto`, `ls` over two names or `sep.nil`"
 pub data Atom : Type 0 where
-  equal_word distinct-word pto-word ls-word : Atom
+  equal_word distinct_word pto_word ls_word : Atom
 
 -- the words that begin a list; "`not` over one"
 pub data Word : Type 0 where
@@ -30,8 +30,8 @@ pub data Word : Type 0 where
 
 -- a name, by its letters, or `sep.nil`
 pub data Term : Type 0 where
-  nil-term : Term
-  name-term : List ℕ → Term
+  nil_term : Term
+  name_term : List ℕ → Term
 
 -- "a formula is such a list or `sep.emp`"
 pub data Phrase : Type 0 where
@@ -43,19 +43,19 @@ pub data Phrase : Type 0 where
 abbrev pub spelling : Word → List ℕ
 spelling (joins and_word) = bytes "and"
 spelling (joins or_word) = bytes "or"
-spelling (joins sep-word) = bytes "sep"
-spelling (joins wand-word) = bytes "wand"
+spelling (joins sep_word) = bytes "sep"
+spelling (joins wand_word) = bytes "wand"
 spelling denies = bytes "not"
 spelling (relates equal_word) = bytes "="
-spelling (relates distinct-word) = bytes "distinct"
-spelling (relates pto-word) = bytes "pto"
-spelling (relates ls-word) = bytes "ls"
+spelling (relates distinct_word) = bytes "distinct"
+spelling (relates pto_word) = bytes "pto"
+spelling (relates ls_word) = bytes "ls"
 
-abbrev pub sep-emp : List ℕ
-sep-emp = bytes "sep.emp"
+abbrev pub sep_emp : List ℕ
+sep_emp = bytes "sep.emp"
 
-abbrev pub sep-nil : List ℕ
-sep-nil = bytes "sep.nil"
+abbrev pub sep_nil : List ℕ
+sep_nil = bytes "sep.nil"
 
 -- "lower-case"; "lower-case letters or digits"
 abbrev pub lower : ℕ → Bool

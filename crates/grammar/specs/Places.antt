@@ -1,8 +1,8 @@
 -- Where a text is refused: 26, 27 and 28 with their places. Assumes nothing: these are definitions.
 use Rattle.std.specs.Prelude.{◌≡◌, Bool, false, List, [], ◌∷◌, ◌++◌, ℕ, suc, ◌+◌, ◌≤◌, ◌<◌, ltb, length, take}
-use Rattle.logic.specs.Numbers.{bad-text, many-nodes, many-names}
-use Rattle.logic.specs.Book.{most, mostNodes}
-use Rattle.logic.specs.Tests.{orb, sameBytes}
+use Rattle.logic.specs.Numbers.{bad_text, many_nodes, many_names}
+use Rattle.logic.specs.Book.{most, most_nodes}
+use Rattle.logic.specs.Tests.{orb, same_bytes}
 use Rattle.grammar.specs.Phrase.{choose, Phrase}
 use Rattle.grammar.specs.Grammar.{Event, named, finished, Means}
 
@@ -18,24 +18,24 @@ pub record BadAt (s : List ℕ) (k : ℕ) : Type 0 where
   pub none : (F : Phrase) (es : List Event) → ¬ Means s F es
 
 -- the byte by which it is finished: "(a name by the byte after it)"
-abbrev pub finishedBy : Event → ℕ
-finishedBy (named x i j) = j
-finishedBy (finished q m) = q
+abbrev pub finished_by : Event → ℕ
+finished_by (named x i j) = j
+finished_by (finished q m) = q
 
 -- those of the events that are "finished before" byte k
 unfoldable pub before : ℕ → List Event → List Event
 before k [] = []
-before k (e ∷ es) = let r = before k es in choose (ltb (finishedBy e) k) (e ∷ r) r
+before k (e ∷ es) = let r = before k es in choose (ltb (finished_by e) k) (e ∷ r) r
 
 -- "27 and 28 count only items finished before 26's place"; in a text with no such place, all
 pub data Finished (s : List ℕ) (es : List Event) : Type 0 where
-  all-of-it : (F : Phrase) → Means s F es → Finished s es
-  up-to-26 : (k : ℕ) (u : List ℕ) (F : Phrase) (fs : List Event) → BadAt s k → Means (take k s ++ u) F fs → es ≡ before k fs → Finished s es
+  all_of_it : (F : Phrase) → Means s F es → Finished s es
+  up_to_26 : (k : ℕ) (u : List ℕ) (F : Phrase) (fs : List Event) → BadAt s k → Means (take k s ++ u) F fs → es ≡ before k fs → Finished s es
 
 -- x is one of the names
 unfoldable pub known : List (List ℕ) → List ℕ → Bool
 known [] x = false
-known (y ∷ ns) x = let r = known ns x in orb (sameBytes y x) r
+known (y ∷ ns) x = let r = known ns x in orb (same_bytes y x) r
 
 -- "names are numbered as they first appear": the names so far, with x
 abbrev pub note : List (List ℕ) → List ℕ → List (List ℕ)
@@ -43,21 +43,21 @@ note ns x = choose (known ns x) ns (ns ++ (x ∷ []))
 
 -- "27 more than 64 nodes, at the last byte of the item that passes 64": after k nodes, the item that is finished at q
 pub data PassesAt : ℕ → List Event → ℕ → Type 0 where
-  passing : {k q m : ℕ} {es : List Event} → k ≤ mostNodes → mostNodes < k + m → PassesAt k (finished q m ∷ es) q
-  past-item : {k p q m : ℕ} {es : List Event} → PassesAt (k + m) es q → PassesAt k (finished p m ∷ es) q
-  past-name : {k i j q : ℕ} {x : List ℕ} {es : List Event} → PassesAt k es q → PassesAt k (named x i j ∷ es) q
+  passing : {k q m : ℕ} {es : List Event} → k ≤ most_nodes → most_nodes < k + m → PassesAt k (finished q m ∷ es) q
+  past_item : {k p q m : ℕ} {es : List Event} → PassesAt (k + m) es q → PassesAt k (finished p m ∷ es) q
+  past_name : {k i j q : ℕ} {x : List ℕ} {es : List Event} → PassesAt k es q → PassesAt k (named x i j ∷ es) q
 
 -- "28 a seventh name, at its first byte"; "a ninth name is refused": one more than k, and after the names ns the one that begins
 -- at i
 pub data NameOverAt (k : ℕ) : List (List ℕ) → List Event → ℕ → Type 0 where
-  one-over : {ns : List (List ℕ)} {i j : ℕ} {x : List ℕ} {es : List Event} → known ns x ≡ false → length ns ≡ k → NameOverAt k ns (named x i j ∷ es) i
-  after-name : {ns : List (List ℕ)} {i j q : ℕ} {x : List ℕ} {es : List Event} → NameOverAt k (note ns x) es q → NameOverAt k ns (named x i j ∷ es) q
-  after-item : {ns : List (List ℕ)} {p q m : ℕ} {es : List Event} → NameOverAt k ns es q → NameOverAt k ns (finished p m ∷ es) q
+  one_over : {ns : List (List ℕ)} {i j : ℕ} {x : List ℕ} {es : List Event} → known ns x ≡ false → length ns ≡ k → NameOverAt k ns (named x i j ∷ es) i
+  after_name : {ns : List (List ℕ)} {i j q : ℕ} {x : List ℕ} {es : List Event} → NameOverAt k (note ns x) es q → NameOverAt k ns (named x i j ∷ es) q
+  after_item : {ns : List (List ℕ)} {p q m : ℕ} {es : List Event} → NameOverAt k ns es q → NameOverAt k ns (finished p m ∷ es) q
 
 pub data ComplaintWithin (k : ℕ) (s : List ℕ) : ℕ → ℕ → Type 0 where
-  bad-at : (i : ℕ) → BadAt s i → ComplaintWithin k s bad-text i
-  passes_at : (es : List Event) (q : ℕ) → Finished s es → PassesAt 0 es q → ComplaintWithin k s many-nodes q
-  name-over-at : (es : List Event) (i : ℕ) → Finished s es → NameOverAt k [] es i → ComplaintWithin k s many-names i
+  bad_at : (i : ℕ) → BadAt s i → ComplaintWithin k s bad_text i
+  passes_at : (es : List Event) (q : ℕ) → Finished s es → PassesAt 0 es q → ComplaintWithin k s many_nodes q
+  name_over_at : (es : List Event) (i : ℕ) → Finished s es → NameOverAt k [] es i → ComplaintWithin k s many_names i
 
 abbrev pub Complaint : List ℕ → ℕ → ℕ → Type 0
 Complaint s m q = ComplaintWithin most s m q

@@ -5,8 +5,8 @@ use Rattle.logic.specs.declared.Profile.{Profile}
 use Rattle.logic.specs.Heap.{Map, Heap, Disjoint, Parts, Empty}
 use Rattle.logic.specs.Holds.{Points, Segment}
 use Rattle.grammar.specs.Phrase.{Term, Phrase, emp, join, deny, relate}
-use Rattle.grammar.specs.Phrase.Join.{and_word, or_word, sep-word, wand-word}
-use Rattle.grammar.specs.Phrase.Atom.{equal_word, distinct-word, pto-word, ls-word}
+use Rattle.grammar.specs.Phrase.Join.{and_word, or_word, sep_word, wand_word}
+use Rattle.grammar.specs.Phrase.Atom.{equal_word, distinct_word, pto_word, ls_word}
 
 -- v variables, n locations; ν gives each term's variable, and s each variable's location
 module _ (π : Profile) (v n : ℕ) (ν : Term → ℕ) (s : Map) where
@@ -16,11 +16,11 @@ module _ (π : Profile) (v n : ℕ) (ν : Term → ℕ) (s : Map) where
   Says (join and_word F G) h = Says F h × Says G h
   Says (join or_word F G) h = Says F h ⊎ Says G h
   -- two parts, disjoint as the profile asks
-  Says (join sep-word F G) h = (g : Map) × (r : Map) × Parts g r h × Disjoint π v s g r × Says F g × Says G r
+  Says (join sep_word F G) h = (g : Map) × (r : Map) × Parts g r h × Disjoint π v s g r × Says F g × Says G r
   -- every heap that says F, disjoint as the profile asks and added, makes a heap that says G
-  Says (join wand-word F G) h = (g u : Map) → Heap n g → Parts g h u → Disjoint π v s g h → Says F g → Says G u
+  Says (join wand_word F G) h = (g u : Map) → Heap n g → Parts g h u → Disjoint π v s g h → Says F g → Says G u
   -- "In this text `=` and `distinct` hold on any heap"
   Says (relate equal_word x y) h = s (ν x) ≡ s (ν y)
-  Says (relate distinct-word x y) h = ¬ (s (ν x) ≡ s (ν y))
-  Says (relate pto-word x y) h = Points (s (ν x)) (s (ν y)) h
-  Says (relate ls-word x y) h = Segment (s (ν x)) (s (ν y)) h
+  Says (relate distinct_word x y) h = ¬ (s (ν x) ≡ s (ν y))
+  Says (relate pto_word x y) h = Points (s (ν x)) (s (ν y)) h
+  Says (relate ls_word x y) h = Segment (s (ν x)) (s (ν y)) h

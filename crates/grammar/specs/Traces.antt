@@ -1,35 +1,35 @@
 -- What a text comes to, with what is finished on the way. Assumes nothing.
 use Rattle.std.specs.Prelude.{◌≡◌, refl, Bool, true, false, List, [], ◌∷◌, ◌++◌, ◌⊎◌, ℕ, ◌+◌, ◌-◌}
 use Rattle.std.proofs.Common.{sym, ap, ◌∙◌, inl, inr, ⊎_elim}
-use Rattle.logic.specs.Reflect.{false-true}
+use Rattle.logic.specs.Reflect.{false_true}
 use Rattle.grammar.specs.Phrase.{Phrase, emp, choose}
 use Rattle.grammar.specs.Grammar.{Event}
 use Rattle.grammar.specs.Machine.{Mode, item, gap, empty, head, word, arg, name, nil, shut, over, dead, ending, Trace, read, bad, event, emits}
 
-pub emits-emits : (es fs : List Event) (t : Trace) → emits es (emits fs t) ≡ emits (es ++ fs) t
+pub emits_emits : (es fs : List Event) (t : Trace) → emits es (emits fs t) ≡ emits (es ++ fs) t
 unfolding emits
-emits-emits [] fs t = refl
-emits-emits (e ∷ es) fs t = ap (event e) (emits-emits es fs t)
+emits_emits [] fs t = refl
+emits_emits (e ∷ es) fs t = ap (event e) (emits_emits es fs t)
 
-unfoldable pub events-of : Trace → List Event
-events-of (read F) = []
-events-of (bad i) = []
-events-of (event e t) = e ∷ events-of t
+unfoldable pub events_of : Trace → List Event
+events_of (read F) = []
+events_of (bad i) = []
+events_of (event e t) = e ∷ events_of t
 
-unfoldable pub phrase-of : Trace → Phrase
-phrase-of (read F) = F
-phrase-of (bad i) = emp
-phrase-of (event e t) = phrase-of t
+unfoldable pub phrase_of_trace : Trace → Phrase
+phrase_of_trace (read F) = F
+phrase_of_trace (bad i) = emp
+phrase_of_trace (event e t) = phrase_of_trace t
 
-pub emitted : (es : List Event) (F : Phrase) → (events-of (emits es (read F)) ≡ es) × (phrase-of (emits es (read F)) ≡ F)
-unfolding emits events-of phrase-of
+pub emitted : (es : List Event) (F : Phrase) → (events_of (emits es (read F)) ≡ es) × (phrase_of_trace (emits es (read F)) ≡ F)
+unfolding emits events_of phrase_of_trace
 emitted [] F = (refl, refl)
 emitted (e ∷ es) F = let q = emitted es F in (ap (λ (z : List Event). e ∷ z) q.0, q.1)
 
-pub events-emits : (es : List Event) (t : Trace) → events-of (emits es t) ≡ es ++ events-of t
-unfolding events-of emits
-events-emits [] t = refl
-events-emits (e ∷ es) t = ap (λ (z : List Event). e ∷ z) (events-emits es t)
+pub events_emits : (es : List Event) (t : Trace) → events_of (emits es t) ≡ es ++ events_of t
+unfolding events_of emits
+events_emits [] t = refl
+events_emits (e ∷ es) t = ap (λ (z : List Event). e ∷ z) (events_emits es t)
 
 -- the text is read to its end
 unfoldable pub whole : Trace → Bool
@@ -37,22 +37,22 @@ whole (read F) = true
 whole (bad i) = false
 whole (event e t) = whole t
 
-pub whole-emits : (es : List Event) (t : Trace) → whole (emits es t) ≡ whole t
+pub whole_emits : (es : List Event) (t : Trace) → whole (emits es t) ≡ whole t
 unfolding whole emits
-whole-emits [] t = refl
-whole-emits (e ∷ es) t = whole-emits es t
+whole_emits [] t = refl
+whole_emits (e ∷ es) t = whole_emits es t
 
-pub whole_is : (t : Trace) → whole t ≡ true → t ≡ emits (events-of t) (read (phrase-of t))
-unfolding whole emits events-of phrase-of
+pub whole_is : (t : Trace) → whole t ≡ true → t ≡ emits (events_of t) (read (phrase_of_trace t))
+unfolding whole emits events_of phrase_of_trace
 whole_is (read F) h = refl
-whole_is (bad i) h = false-true h
+whole_is (bad i) h = false_true h
 whole_is (event e t) h = ap (event e) (whole_is t h)
 
 -- what is whole was alive
-pub whole-alive : (c : Bool) (t : Trace) (i : ℕ) → whole (choose c t (bad i)) ≡ true → (c ≡ true) × (whole t ≡ true)
+pub whole_alive : (c : Bool) (t : Trace) (i : ℕ) → whole (choose c t (bad i)) ≡ true → (c ≡ true) × (whole t ≡ true)
 unfolding whole
-whole-alive true t i h = (refl, h)
-whole-alive false t i h = false-true h
+whole_alive true t i h = (refl, h)
+whole_alive false t i h = false_true h
 
 -- a text may end in one mode alone
 pub ends : (m : Mode) → ((F : Phrase) × (m ≡ over F)) ⊎ ((i : ℕ) → ending m i ≡ bad i)
@@ -69,14 +69,14 @@ ends (nil r p σ) = inr (λ i. refl)
 ends (shut F σ) = inr (λ i. refl)
 ends dead = inr (λ i. refl)
 
-pub ending-none : (m : Mode) (i : ℕ) → events-of (ending m i) ≡ []
-unfolding ending events-of
-ending-none m i = ⊎_elim (λ q. ap (λ (k : Mode). events-of (ending k i)) q.1) (λ f. ap events-of (f i)) (ends m)
+pub ending_none : (m : Mode) (i : ℕ) → events_of (ending m i) ≡ []
+unfolding ending events_of
+ending_none m i = ⊎_elim (λ q. ap (λ (k : Mode). events_of (ending k i)) q.1) (λ f. ap events_of (f i)) (ends m)
 
-pub ends-bad : (m : Mode) (j : ℕ) → whole (ending m j) ≡ false → (i : ℕ) → ending m i ≡ bad i
+pub ends_bad : (m : Mode) (j : ℕ) → whole (ending m j) ≡ false → (i : ℕ) → ending m i ≡ bad i
 unfolding ending whole
-ends-bad m j h i = ⊎_elim (λ q. false-true (sym h ∙ ap (λ (k : Mode). whole (ending k j)) q.1)) (λ f. f i) (ends m)
+ends_bad m j h i = ⊎_elim (λ q. false_true (sym h ∙ ap (λ (k : Mode). whole (ending k j)) q.1)) (λ f. f i) (ends m)
 
-pub bad-none : (i : ℕ) → events-of (bad i) ≡ []
-unfolding events-of
-bad-none i = refl
+pub bad_none : (i : ℕ) → events_of (bad i) ≡ []
+unfolding events_of
+bad_none i = refl

@@ -8,27 +8,27 @@ use native.Mathlib.Omega.{arith}
 use borrow.Author.Tests.{eq-eqb, ne_eqb, le-leb, lt-leb}
 use Rattle.logic.specs.Formula.{Form}
 use Rattle.logic.specs.Formula.Form.{same, diff, pts, ls, conj, disj, but, neg, sep, sept}
-use Rattle.logic.specs.Table.{kind_of, usesOn, uses, Tree}
+use Rattle.logic.specs.Table.{kind_of, uses_on, uses, Tree}
 use Rattle.logic.specs.Tests.{pick}
 use Rattle.grammar.specs.Listing.{size_of}
-use Rattle.grammar.specs.ListingLaws.{size-some, Node, Two, Has}
+use Rattle.grammar.specs.ListingLaws.{size_some, Node, Two, Has}
 
 module _ (f : List ℕ) (j : ℕ) where
   -- how often node i has the child j
-  abbrev usedBy : ℕ → ℕ
-  usedBy i = usesOn f i j 0 + usesOn f i j 1
+  abbrev used_by : ℕ → ℕ
+  used_by i = uses_on f i j 0 + uses_on f i j 1
 
-  atom-uses-none : (k o x y : ℕ) → o ≤ 4 → Node f k o x y → usedBy k ≡ 0
+  atom_uses_none : (k o x y : ℕ) → o ≤ 4 → Node f k o x y → used_by k ≡ 0
   unfolding kind_of
-  atom-uses-none k o x y l n = rw (n.0, le-leb o 4 l)
+  atom_uses_none k o x y l n = rw (n.0, le-leb o 4 l)
 
-  two-uses : (k o x y : ℕ) → 5 ≤ o → eqb o 8 ≡ false → Node f k o x y → usedBy k ≡ pick (eqb x j) 1 0 + pick (eqb y j) 1 0
+  two_uses : (k o x y : ℕ) → 5 ≤ o → eqb o 8 ≡ false → Node f k o x y → used_by k ≡ pick (eqb x j) 1 0 + pick (eqb y j) 1 0
   unfolding kind_of
-  two-uses k o x y l e n = rw (n.0, n.1, n.2, lt-leb o 4 l, e)
+  two_uses k o x y l e n = rw (n.0, n.1, n.2, lt-leb o 4 l, e)
 
-  one-uses : (k x : ℕ) → Node f k 8 x 0 → usedBy k ≡ pick (eqb x j) 1 0
+  one_uses : (k x : ℕ) → Node f k 8 x 0 → used_by k ≡ pick (eqb x j) 1 0
   unfolding kind_of
-  one-uses k x n = rw (n.0, n.1) (omega arith)
+  one_uses k x n = rw (n.0, n.1) (omega arith)
 
   -- j is one of the nodes from k on, of which there are r, and not the last
   abbrev Inner : ℕ → ℕ → Type 0
@@ -38,12 +38,12 @@ module _ (f : List ℕ) (j : ℕ) where
   abbrev Once : ℕ → ℕ → Type 0
   Once k r = (Inner k r × (uses f (k + r) j ≡ uses f k j + 1)) ⊎ ((¬ Inner k r) × (uses f (k + r) j ≡ uses f k j))
 
-  uses-next : (k : ℕ) → uses f (k + 1) j ≡ uses f k j + usedBy k
+  uses_next : (k : ℕ) → uses f (k + 1) j ≡ uses f k j + used_by k
   unfolding uses
-  uses-next k = let e : k + 1 ≡ suc k = omega arith in rw e
+  uses_next k = let e : k + 1 ≡ suc k = omega arith in rw e
 
-  once-atom : (k o x y : ℕ) → o ≤ 4 → Node f k o x y → Once k 1
-  once-atom k o x y l n = inr (λ h. omega (arith, h.0, h.1), uses-next k ∙ (rw (atom-uses-none k o x y l n) (omega arith)))
+  once_atom : (k o x y : ℕ) → o ≤ 4 → Node f k o x y → Once k 1
+  once_atom k o x y l n = inr (λ h. omega (arith, h.0, h.1), uses_next k ∙ (rw (atom_uses_none k o x y l n) (omega arith)))
 
   hit : (x : ℕ) → x ≡ j → pick (eqb x j) 1 0 ≡ 1
   hit x e = rw (eq-eqb x j e)
@@ -58,11 +58,11 @@ module _ (f : List ℕ) (j : ℕ) where
       go (yes m) = absurd (h (l, m))
       go (no m) = omega arith
 
-  once-two : (o k l m : ℕ) → 5 ≤ o → eqb o 8 ≡ false → 1 ≤ l → 1 ≤ m → Two f o k l m → Once k l → Once (k + l) m → Once k (l + m + 1)
-  once-two o k l m lo e pl pm n p q = go p q (ℕ_discrete (k + l - 1) j) (ℕ_discrete (k + l + m - 1) j)
+  once_two : (o k l m : ℕ) → 5 ≤ o → eqb o 8 ≡ false → 1 ≤ l → 1 ≤ m → Two f o k l m → Once k l → Once (k + l) m → Once k (l + m + 1)
+  once_two o k l m lo e pl pm n p q = go p q (ℕ_discrete (k + l - 1) j) (ℕ_discrete (k + l + m - 1) j)
     where
       all : uses f (k + l + m + 1) j ≡ uses f (k + l + m) j + (pick (eqb (k + l - 1) j) 1 0 + pick (eqb (k + l + m - 1) j) 1 0)
-      all = uses-next (k + l + m) ∙ ap (λ (z : ℕ). uses f (k + l + m) j + z) (two-uses (k + l + m) o (k + l - 1) (k + l + m - 1) lo e n)
+      all = uses_next (k + l + m) ∙ ap (λ (z : ℕ). uses f (k + l + m) j + z) (two_uses (k + l + m) o (k + l - 1) (k + l + m - 1) lo e n)
 
       last : k + l + m + 1 ≡ k + (l + m + 1)
       last = omega arith
@@ -90,11 +90,11 @@ module _ (f : List ℕ) (j : ℕ) where
           far : k ≤ j → suc j < k + (l + m + 1) → k + l ≤ suc j → ⊥
           far a b c = let d = outside (k + l) m w.0 (omega arith) in omega arith
 
-  once-one : (k l : ℕ) → 1 ≤ l → Node f (k + l) 8 (k + l - 1) 0 → Once k l → Once k (l + 1)
-  once-one k l pl n p = go p (ℕ_discrete (k + l - 1) j)
+  once_one : (k l : ℕ) → 1 ≤ l → Node f (k + l) 8 (k + l - 1) 0 → Once k l → Once k (l + 1)
+  once_one k l pl n p = go p (ℕ_discrete (k + l - 1) j)
     where
       all : uses f (k + l + 1) j ≡ uses f (k + l) j + pick (eqb (k + l - 1) j) 1 0
-      all = uses-next (k + l) ∙ ap (λ (z : ℕ). uses f (k + l) j + z) (one-uses (k + l) (k + l - 1) n)
+      all = uses_next (k + l) ∙ ap (λ (z : ℕ). uses f (k + l) j + z) (one_uses (k + l) (k + l - 1) n)
 
       last : k + l + 1 ≡ k + (l + 1)
       last = omega arith
@@ -109,22 +109,22 @@ module _ (f : List ℕ) (j : ℕ) where
             subst (λ (t : ℕ). uses f t j ≡ uses f k j) last (all ∙ rw (miss (k + l - 1) x) (omega (arith, u.1))),
           )
 
-  pub once-has : (F : Form) (k : ℕ) → Has f k F → Once k (size_of F)
+  pub once_has : (F : Form) (k : ℕ) → Has f k F → Once k (size_of F)
   unfolding Has size_of
-  once-has (same x y) k h = once-atom k 1 x y (omega arith) h
-  once-has (diff x y) k h = once-atom k 2 x y (omega arith) h
-  once-has (pts x y) k h = once-atom k 3 x y (omega arith) h
-  once-has (ls x y) k h = once-atom k 4 x y (omega arith) h
-  once-has (conj a b) k h = once-two 5 k (size_of a) (size_of b) (omega arith) refl (size-some a) (size-some b) h.2 (once-has a k h.0) (once-has b (k + size_of a) h.1)
-  once-has (disj a b) k h = once-two 6 k (size_of a) (size_of b) (omega arith) refl (size-some a) (size-some b) h.2 (once-has a k h.0) (once-has b (k + size_of a) h.1)
-  once-has (but a b) k h = once-two 7 k (size_of a) (size_of b) (omega arith) refl (size-some a) (size-some b) h.2 (once-has a k h.0) (once-has b (k + size_of a) h.1)
-  once-has (neg a) k h = once-one k (size_of a) (size-some a) h.1 (once-has a k h.0)
-  once-has (sep a b) k h = once-two 9 k (size_of a) (size_of b) (omega arith) refl (size-some a) (size-some b) h.2 (once-has a k h.0) (once-has b (k + size_of a) h.1)
-  once-has (sept a b) k h = once-two 10 k (size_of a) (size_of b) (omega arith) refl (size-some a) (size-some b) h.2 (once-has a k h.0) (once-has b (k + size_of a) h.1)
+  once_has (same x y) k h = once_atom k 1 x y (omega arith) h
+  once_has (diff x y) k h = once_atom k 2 x y (omega arith) h
+  once_has (pts x y) k h = once_atom k 3 x y (omega arith) h
+  once_has (ls x y) k h = once_atom k 4 x y (omega arith) h
+  once_has (conj a b) k h = once_two 5 k (size_of a) (size_of b) (omega arith) refl (size_some a) (size_some b) h.2 (once_has a k h.0) (once_has b (k + size_of a) h.1)
+  once_has (disj a b) k h = once_two 6 k (size_of a) (size_of b) (omega arith) refl (size_some a) (size_some b) h.2 (once_has a k h.0) (once_has b (k + size_of a) h.1)
+  once_has (but a b) k h = once_two 7 k (size_of a) (size_of b) (omega arith) refl (size_some a) (size_some b) h.2 (once_has a k h.0) (once_has b (k + size_of a) h.1)
+  once_has (neg a) k h = once_one k (size_of a) (size_some a) h.1 (once_has a k h.0)
+  once_has (sep a b) k h = once_two 9 k (size_of a) (size_of b) (omega arith) refl (size_some a) (size_some b) h.2 (once_has a k h.0) (once_has b (k + size_of a) h.1)
+  once_has (sept a b) k h = once_two 10 k (size_of a) (size_of b) (omega arith) refl (size_some a) (size_some b) h.2 (once_has a k h.0) (once_has b (k + size_of a) h.1)
 
 pub tree_of : (f : List ℕ) (F : Form) → Has f 0 F → Tree f (size_of F)
 unfolding uses
-tree_of f F h j l = go (once-has f j F 0 h)
+tree_of f F h j l = go (once_has f j F 0 h)
   where
     z : 0 + size_of F ≡ size_of F
     z = omega arith

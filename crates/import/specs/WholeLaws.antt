@@ -6,56 +6,56 @@ use mathlib.Core.List.{List, [], ◌++◌, append_assoc}
 use Rattle.std.proofs.Math.Nat.{zero-add}
 use Rattle.std.proofs.Math.ListN.{length, drop, length-append}
 use Rattle.std.proofs.Math.Seq.{paste, drop-append-add}
-use Rattle.grammar.specs.Steps.{onward, looks, ended, skip-over}
+use Rattle.grammar.specs.Steps.{onward, looks, ended, skip_over}
 use Rattle.logic.specs.declared.Answer.{Answer}
-use Rattle.logic.specs.Numbers.{answer, yes-number, bounds, output-length, bad-text}
+use Rattle.logic.specs.Numbers.{answer, yes_number, bounds, output_length, bad_text}
 use Rattle.logic.specs.Book.{most, head_of}
 use Rattle.grammar.specs.Machine.{item, step, bad, alive, ending, over}
 use Rattle.grammar.specs.Outcome.{outcome}
 use Rattle.grammar.specs.Verdicts.{Taken, Settled, settled}
-use Rattle.grammar.specs.Listing.{size_of, listing, bookOf}
-use Rattle.grammar.specs.ListingLaws.{listing-long}
-use Rattle.grammar.specs.Meaning.{names_of, number_of, form_of, meaning, bookFor}
+use Rattle.grammar.specs.Listing.{size_of, listing, book_of}
+use Rattle.grammar.specs.ListingLaws.{listing_long}
+use Rattle.grammar.specs.Meaning.{names_of, number_of, form_of, meaning, book_for}
 use Rattle.grammar.specs.Import.{Good, Imports}
-use Rattle.grammar.specs.ImportLaws.{imports-bounds, imports-refused, imports-short, imports-written}
+use Rattle.grammar.specs.ImportLaws.{imports_bounds, imports_refused, imports_short, imports_written}
 use Rattle.words.specs.Words.{Skipped}
 use Rattle.names.specs.Names.{held}
-use Rattle.names.specs.NameLaws.{names-long}
-use Rattle.items.specs.Readings.{Draft, draft, Step, formIn, bytes_of, Read, ReadIs}
+use Rattle.names.specs.NameLaws.{names_long}
+use Rattle.items.specs.Readings.{Draft, draft, Step, form_in, bytes_of, Read, ReadIs}
 use Rattle.import.specs.Wholes.{Whole, WholeIs, written}
 
 -- ---- the text
 
 module _ (s t l : List ℕ) where
-  pub whole-refused : (r : Step) → ReadIs s item 0 0 (draft t 0 l 0) r → ¬ (r.number ≡ 0) → WholeIs s r
-  whole-refused r h z = record { whole = λ y. absurd (z y); refuses = λ _. h.refuses z [] refl }
+  pub whole_refused : (r : Step) → ReadIs s item 0 0 (draft t 0 l 0) r → ¬ (r.number ≡ 0) → WholeIs s r
+  whole_refused r h z = record { whole = λ y. absurd (z y); refuses = λ _. h.refuses z [] refl }
 
   module _ (b : Step) (q : Read s item 0 0 (draft t 0 l 0) b) (j : ℕ) (k : Skipped s b.at j) where
     -- something stands behind the formula
-    pub whole_open : {d : Draft} → j < length s → WholeIs s (record { number = bad-text; at = j; draft = d })
+    pub whole_open : {d : Draft} → j < length s → WholeIs s (record { number = bad_text; at = j; draft = d })
     unfolding outcome step alive
     whole_open m =
         let stopped : onward s (over q.phrase) j ≡ bad j = looks s (over q.phrase) (m, refl) ∙ rw (k.next (get_or s j 0) (m, refl)) in
         record {
           whole = λ y. absurd (omega (arith, y));
-          refuses = λ _. q.goes [] refl ∙ ap (outcome (held b.draft.names) b.draft.nodes) (skip-over s q.phrase k.blanks ∙ stopped);
+          refuses = λ _. q.goes [] refl ∙ ap (outcome (held b.draft.names) b.draft.nodes) (skip_over s q.phrase k.blanks ∙ stopped);
         }
 
-    pub whole-read : b.number ≡ 0 → length s ≤ j → WholeIs s b
+    pub whole_read : b.number ≡ 0 → length s ≤ j → WholeIs s b
     unfolding outcome ending
-    whole-read z m =
+    whole_read z m =
         let F = q.phrase in
         let end : j ≡ length s = omega (arith, k.inside) in
-        let form : formIn b.draft F ≡ meaning F = ap (λ (ns : List (List ℕ)). form_of (number_of ns) F) q.names in
+        let form : form_in b.draft F ≡ meaning F = ap (λ (ns : List (List ℕ)). form_of (number_of ns) F) q.names in
         record {
           whole = λ _.
               record {
                 phrase = F;
                 fine = q.fine;
                 names = q.names;
-                nodes = q.nodes ∙ zero-add (size_of (formIn b.draft F)) ∙ ap size_of form;
+                nodes = q.nodes ∙ zero-add (size_of (form_in b.draft F)) ∙ ap size_of form;
                 bytes = q.bytes ∙ ap (listing 0) form;
-                takes = q.goes [] refl ∙ ap (outcome (held b.draft.names) b.draft.nodes) (skip-over s F k.blanks ∙ ap (onward s (over F)) end ∙ ended s (over F));
+                takes = q.goes [] refl ∙ ap (outcome (held b.draft.names) b.draft.nodes) (skip_over s F k.blanks ∙ ap (onward s (over F)) end ∙ ended s (over F));
               };
           refuses = λ y. absurd (y z);
         }
@@ -64,27 +64,27 @@ module _ (s t l : List ℕ) where
 
 -- the draft of a text is its book
 module _ (s : List ℕ) (n p : ℕ) (r : Step) (w : Whole s r) where
-  count-is : r.draft.names.count ≡ length (names_of w.phrase)
-  count-is =
+  count_is : r.draft.names.count ≡ length (names_of w.phrase)
+  count_is =
       let f = w.fine.names in
-      sym (names-long r.draft.names.letters r.draft.names.count 0 (omega (arith, f.long, f.few))) ∙ ap length w.names
+      sym (names_long r.draft.names.letters r.draft.names.count 0 (omega (arith, f.long, f.few))) ∙ ap length w.names
 
-  book-long : length (bookFor n p w.phrase) ≡ 14 + 3 * r.draft.nodes
-  unfolding bookOf
-  book-long =
+  book_long : length (book_for n p w.phrase) ≡ 14 + 3 * r.draft.nodes
+  unfolding book_of
+  book_long =
       let F = w.phrase in
-      length-append (head_of 2 (length (names_of F)) n p (3 * size_of (meaning F))) (listing 0 (meaning F)) ∙ omega (arith, listing-long 0 (meaning F), w.nodes)
+      length-append (head_of 2 (length (names_of F)) n p (3 * size_of (meaning F))) (listing 0 (meaning F)) ∙ omega (arith, listing_long 0 (meaning F), w.nodes)
 
-  book-written : (o : List ℕ) → written r.draft.table r.draft.names.count r.draft.nodes n p o ≡ bookFor n p w.phrase ++ drop (length (bookFor n p w.phrase)) o
-  unfolding bookOf
-  book-written o =
+  book_written : (o : List ℕ) → written r.draft.table r.draft.names.count r.draft.nodes n p o ≡ book_for n p w.phrase ++ drop (length (book_for n p w.phrase)) o
+  unfolding book_of
+  book_written o =
       let F = w.phrase in
       let d = r.draft in
       let H = head_of 2 (length (names_of F)) n p (3 * size_of (meaning F)) in
-      ap (λ (v : ℕ). head_of 2 v n p (3 * d.nodes) ++ (bytes_of d ++ drop (14 + 3 * d.nodes) o)) count-is
+      ap (λ (v : ℕ). head_of 2 v n p (3 * d.nodes) ++ (bytes_of d ++ drop (14 + 3 * d.nodes) o)) count_is
       ∙ ap (λ (m : ℕ). head_of 2 (length (names_of F)) n p (3 * m) ++ (bytes_of d ++ drop (14 + 3 * d.nodes) o)) w.nodes
-      ∙ ap₂ (λ (x : List ℕ) (i : ℕ). H ++ (x ++ drop i o)) w.bytes (sym book-long)
-      ∙ sym (append_assoc H (listing 0 (meaning F)) (drop (length (bookFor n p F)) o))
+      ∙ ap₂ (λ (x : List ℕ) (i : ℕ). H ++ (x ++ drop i o)) w.bytes (sym book_long)
+      ∙ sym (append_assoc H (listing 0 (meaning F)) (drop (length (book_for n p F)) o))
 
   good : Good s w.phrase
   good =
@@ -92,25 +92,25 @@ module _ (s : List ℕ) (n p : ℕ) (r : Step) (w : Whole s r) where
       record { events = t.events; means = t.means; none = t.none }
 
   module _ (ln : n ≤ most) (lp : p ≤ most) (o : List ℕ) (a : Answer) where
-    pub import-short : a ≡ answer output-length 0 → length o < 14 + 3 * r.draft.nodes → Imports s n p o a o
-    import-short e l = subst (λ (x : Answer). Imports s n p o x o) (sym e) (imports-short s n p o ln lp w.phrase good (omega (arith, l, book-long)))
+    pub import_short : a ≡ answer output_length 0 → length o < 14 + 3 * r.draft.nodes → Imports s n p o a o
+    import_short e l = subst (λ (x : Answer). Imports s n p o x o) (sym e) (imports_short s n p o ln lp w.phrase good (omega (arith, l, book_long)))
 
-    pub import-written : (x : List ℕ) → a ≡ answer yes-number 0 → 14 + 3 * r.draft.nodes ≤ length o → x ≡ written r.draft.table r.draft.names.count r.draft.nodes n p o → Imports s n p o a x
-    import-written x e l h =
-        subst₂ (λ (y : Answer) (z : List ℕ). Imports s n p o y z) (sym e) (sym (h ∙ book-written o)) (imports-written s n p o ln lp w.phrase good (omega (arith, l, book-long)))
+    pub import_written : (x : List ℕ) → a ≡ answer yes_number 0 → 14 + 3 * r.draft.nodes ≤ length o → x ≡ written r.draft.table r.draft.names.count r.draft.nodes n p o → Imports s n p o a x
+    import_written x e l h =
+        subst₂ (λ (y : Answer) (z : List ℕ). Imports s n p o y z) (sym e) (sym (h ∙ book_written o)) (imports_written s n p o ln lp w.phrase good (omega (arith, l, book_long)))
 
 -- ---- refusals
 
 module _ (s : List ℕ) (n p : ℕ) (o : List ℕ) (a : Answer) where
-  pub import-bounds : ¬ ((n ≤ most) × (p ≤ most)) → a ≡ answer bounds 0 → Imports s n p o a o
-  import-bounds f e = subst (λ (x : Answer). Imports s n p o x o) (sym e) (imports-bounds s n p o f)
+  pub import_bounds : ¬ ((n ≤ most) × (p ≤ most)) → a ≡ answer bounds 0 → Imports s n p o a o
+  import_bounds f e = subst (λ (x : Answer). Imports s n p o x o) (sym e) (imports_bounds s n p o f)
 
-  pub import-refused : n ≤ most → p ≤ most → (r : Step) → WholeIs s r → ¬ (r.number ≡ 0) → a ≡ answer r.number r.at → Imports s n p o a o
-  import-refused ln lp r h z e =
-      subst (λ (x : Answer). Imports s n p o x o) (sym e) (imports-refused s n p o ln lp r.number r.at (subst (Settled s) (h.refuses z) (settled s)))
+  pub import_refused : n ≤ most → p ≤ most → (r : Step) → WholeIs s r → ¬ (r.number ≡ 0) → a ≡ answer r.number r.at → Imports s n p o a o
+  import_refused ln lp r h z e =
+      subst (λ (x : Answer). Imports s n p o x o) (sym e) (imports_refused s n p o ln lp r.number r.at (subst (Settled s) (h.refuses z) (settled s)))
 
 -- ---- writing
 
 -- the nodes behind the head
-pub head-nodes : (kind v n p size : ℕ) (t o : List ℕ) (k : ℕ) → paste (head_of kind v n p size ++ drop 14 o) 14 t k ≡ head_of kind v n p size ++ (take k t ++ drop (14 + k) o)
-head-nodes kind v n p size t o k = ap (λ (x : List ℕ). head_of kind v n p size ++ (take k t ++ x)) (drop-append-add (head_of kind v n p size) (drop 14 o) k ∙ drop-drop k 14 o)
+pub head_nodes : (kind v n p size : ℕ) (t o : List ℕ) (k : ℕ) → paste (head_of kind v n p size ++ drop 14 o) 14 t k ≡ head_of kind v n p size ++ (take k t ++ drop (14 + k) o)
+head_nodes kind v n p size t o k = ap (λ (x : List ℕ). head_of kind v n p size ++ (take k t ++ x)) (drop-append-add (head_of kind v n p size) (drop 14 o) k ∙ drop-drop k 14 o)

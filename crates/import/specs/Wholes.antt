@@ -7,7 +7,7 @@ use Rattle.grammar.specs.Listing.{size_of, listing}
 use Rattle.grammar.specs.Meaning.{names_of, meaning}
 use Rattle.grammar.specs.Outcome.{outcome, taken, refused}
 use Rattle.names.specs.Names.{held}
-use Rattle.draft.specs.Drafts.{bytesIn}
+use Rattle.draft.specs.Drafts.{bytes_in}
 use Rattle.items.specs.Readings.{Step, Fine, bytes_of}
 
 module _ (s : List ℕ) where
@@ -27,4 +27,4 @@ module _ (s : List ℕ) where
 
 -- the book of k names and m nodes, which the table t holds, at the front of the output o
 abbrev pub written : List ℕ → ℕ → ℕ → ℕ → ℕ → List ℕ → List ℕ
-written t k m n p o = head_of 2 k n p (3 * m) ++ (bytesIn t m ++ drop (14 + 3 * m) o)
+written t k m n p o = head_of 2 k n p (3 * m) ++ (bytes_in t m ++ drop (14 + 3 * m) o)

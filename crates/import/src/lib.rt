@@ -1,10 +1,10 @@
 // The import of a text: the book of the formula that it means, at the front of the output.
 ghost use Rattle.std.specs.Prelude.{◌≡◌, ◌+◌, ◌*◌, ◌≤◌, length};
 ghost use Rattle.std.proofs.Math.Seq.{paste};
-ghost use Rattle.logic.specs.Book.{most, mostNodes};
+ghost use Rattle.logic.specs.Book.{most, most_nodes};
 ghost use Rattle.grammar.specs.Import.{Imports};
 ghost use Rattle.draft.specs.Drafts.{Ready};
-ghost use Rattle.items.specs.Readings.{draft as draft-of, step, Fine};
+ghost use Rattle.items.specs.Readings.{draft as draft_of, step, Fine};
 ghost use Rattle.import.specs.Wholes.{WholeIs, written};
 
 use head::{HEAD, put_head};
@@ -16,7 +16,7 @@ use words::skip;
 
 // The whole text: one item, and blanks behind it.
 fn whole(table: &mut Table, letters: &mut Letters, s: &[u8]) -> Reached
-    requires { Fine (draft-of table.old 0 letters.old 0) }
+    requires { Fine (draft_of table.old 0 letters.old 0) }
     ensures { WholeIs s.now (step result table.new letters.new) }
 {
     let body = item(table, letters, s, 0, 0, 0, 0);
@@ -37,7 +37,7 @@ fn whole(table: &mut Table, letters: &mut Letters, s: &[u8]) -> Reached
 
 // Writes the first bytes of a table behind the head.
 fn put_nodes(out: &mut [u8], table: &Table, size: usize)
-    requires { (14 + size ≤ length out.old) × (length table.now ≡ 3 * mostNodes) × (size ≤ 3 * mostNodes) }
+    requires { (14 + size ≤ length out.old) × (length table.now ≡ 3 * most_nodes) × (size ≤ 3 * most_nodes) }
     ensures { out.new ≡ paste out.old 14 table.now size }
 {
     let mut i: usize = 0;

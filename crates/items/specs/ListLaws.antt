@@ -4,59 +4,59 @@ use Rattle.std.proofs.Common.{sym, ◌∙◌, subst, add-one, arith}
 use Rattle.std.proofs.Math.Path.{ap, ap₂}
 use mathlib.Core.List.{List, [], ◌∷◌, ◌++◌, append-nil, append_assoc}
 use Rattle.std.proofs.lemmas.Bool.{lt-leb}
-use Rattle.grammar.specs.NumberLaws.{More, TermIn, more-collect, all_in, form-more, more-term, term-note, number_more}
-use Rattle.logic.specs.Numbers.{bad-text}
+use Rattle.grammar.specs.NumberLaws.{More, TermIn, more_collect, all_in, form_more, more_term, term_note, number_more}
+use Rattle.logic.specs.Numbers.{bad_text}
 use Rattle.logic.specs.Formula.{Form}
 use Rattle.grammar.specs.Phrase.{Join, Atom, Word, joins, denies, relates, join, deny, relate}
-use Rattle.grammar.specs.Phrase.Join.{and_word, or_word, sep-word, wand-word}
+use Rattle.grammar.specs.Phrase.Join.{and_word, or_word, sep_word, wand_word}
 use Rattle.grammar.specs.Grammar.{adds, deepest, Byte}
-use Rattle.grammar.specs.Machine.{Frame, only_one, first_of, second-of, start, later, item, head, arg, shut, step as next, alive}
-use Rattle.grammar.specs.Steps.{onward, looks, skip-item, waits}
-use Rattle.grammar.specs.Forward.{run-open}
+use Rattle.grammar.specs.Machine.{Frame, only_one, first_of, second_of, start, later, item, head, arg, shut, step as next, alive}
+use Rattle.grammar.specs.Steps.{onward, looks, skip_item, waits}
+use Rattle.grammar.specs.Forward.{run_open}
 use Rattle.grammar.specs.Listing.{size_of, listing}
-use Rattle.grammar.specs.Meaning.{collect, noteTerm, number_of, joinForm, atomForm, form_of}
-use Rattle.grammar.specs.MeaningLaws.{join-size, atom-size}
+use Rattle.grammar.specs.Meaning.{collect, note_term, number_of, join_form, atom_form, form_of}
+use Rattle.grammar.specs.MeaningLaws.{join_size, atom_size}
 use Rattle.grammar.specs.Outcome.{outcome}
 use Rattle.words.specs.Words.{word_of, Skipped, WordIs}
 use Rattle.words.specs.declared.Said.{Said}
 use Rattle.words.specs.declared.Said.TheVariants.{Word as Says}
 use Rattle.names.specs.declared.Taken.{Taken}
 use Rattle.names.specs.Names.{Names, held, Took, OperandIs}
-use Rattle.draft.specs.Drafts.{join_of, atomOf, joinTail, NodesIs}
+use Rattle.draft.specs.Drafts.{join_of, atom_of, join_tail, NodesIs}
 use Rattle.items.specs.declared.Reached.{Reached}
-use Rattle.items.specs.Readings.{Draft, Step, step, ClosedIs, formIn, bytes_of, Read, ReadIs}
-use Rattle.items.specs.ReadLaws.{refuses-as, stops_at, moved, list-closed}
+use Rattle.items.specs.Readings.{Draft, Step, step, ClosedIs, form_in, bytes_of, Read, ReadIs}
+use Rattle.items.specs.ReadLaws.{refuses_as, stops_at, moved, list_closed}
 
 -- ---- a list of one formula
 
 module _ (s : List ℕ) (depth i : ℕ) (d : Draft) where
   -- the first formula of a list is refused
-  pub first-refused : (f : Frame) {r : Step} → ReadIs s item (depth + 1) i d r → ¬ (r.number ≡ 0) → ReadIs s (λ σ. item (f ∷ σ)) depth i d r
-  first-refused f h z = record { read = λ y. absurd (z y); refuses = λ _ σ e. h.refuses z (f ∷ σ) (omega (arith, e)) }
+  pub first_refused : (f : Frame) {r : Step} → ReadIs s item (depth + 1) i d r → ¬ (r.number ≡ 0) → ReadIs s (λ σ. item (f ∷ σ)) depth i d r
+  first_refused f h z = record { read = λ y. absurd (z y); refuses = λ _ σ e. h.refuses z (f ∷ σ) (omega (arith, e)) }
 
   module _ (a : Step) (q : Read s item (depth + 1) i d a) where
-    single-reach : (σ : List Frame) → length σ ≡ depth
+    single_reach : (σ : List Frame) → length σ ≡ depth
         → outcome (held d.names) d.nodes (onward s (item (only_one ∷ σ)) i) ≡ outcome (held a.draft.names) a.draft.nodes (onward s (shut (deny q.phrase) σ) a.at)
-    single-reach σ e = q.goes (only_one ∷ σ) (omega (arith, e))
+    single_reach σ e = q.goes (only_one ∷ σ) (omega (arith, e))
 
-    pub single-read : {n : ℕ} {u : List ℕ} → NodesIs a.draft.table a.draft.nodes 1 (8 ∷ (a.draft.nodes - 1) ∷ 0 ∷ []) n u
+    pub single_read : {n : ℕ} {u : List ℕ} → NodesIs a.draft.table a.draft.nodes 1 (8 ∷ (a.draft.nodes - 1) ∷ 0 ∷ []) n u
         → (r : Reached) → ClosedIs s a.at n a.draft.names.count r → ReadIs s (waits denies) depth i d (step r u a.draft.names.letters)
     unfolding collect form_of size_of listing
-    single-read h r f =
-        let A = formIn a.draft q.phrase in
+    single_read h r f =
+        let A = form_in a.draft q.phrase in
         let last : a.draft.nodes - 1 ≡ d.nodes + size_of A - 1 = ap (λ (n : ℕ). n - 1) q.nodes in
-        list-closed s depth i d (waits denies) (deny q.phrase) a.draft a.at (omega (arith, q.from)) single-reach h q.fine.names q.names (omega (arith, q.nodes))
+        list_closed s depth i d (waits denies) (deny q.phrase) a.draft a.at (omega (arith, q.from)) single_reach h q.fine.names q.names (omega (arith, q.nodes))
         (ap₂ (λ (x : List ℕ) (n : ℕ). x ++ (8 ∷ n ∷ 0 ∷ [])) q.bytes last ∙ append_assoc (bytes_of d) (listing d.nodes A) (8 ∷ (d.nodes + size_of A - 1) ∷ 0 ∷ [])) r f
 
 -- ---- a list of two formulas
 
 -- the nodes of the two, and what the list adds
-join-listing : (c : Join) (k : ℕ) (A B : Form) → listing k A ++ (listing (k + size_of A) B ++ joinTail c (k + size_of A) (k + size_of A + size_of B)) ≡ listing k (joinForm c A B)
+join_listing : (c : Join) (k : ℕ) (A B : Form) → listing k A ++ (listing (k + size_of A) B ++ join_tail c (k + size_of A) (k + size_of A + size_of B)) ≡ listing k (join_form c A B)
 unfolding listing size_of
-join-listing and_word k A B = refl
-join-listing or_word k A B = refl
-join-listing sep-word k A B = refl
-join-listing wand-word k A B =
+join_listing and_word k A B = refl
+join_listing or_word k A B = refl
+join_listing sep_word k A B = refl
+join_listing wand_word k A B =
     let m = k + size_of A in
     let n = m + size_of B in
     let e : m + (size_of B + 1) - 1 ≡ n = omega arith in
@@ -68,132 +68,132 @@ join-listing wand-word k A B =
     ∙ append_assoc (listing m B) (8 ∷ (n - 1) ∷ 0 ∷ 10 ∷ (m - 1) ∷ n ∷ []) (8 ∷ (n + 1) ∷ 0 ∷ []))))
 
 module _ (s : List ℕ) (depth i : ℕ) (d : Draft) (c : Join) (a : Step) (q : Read s item (depth + 1) i d a) where
-  pub second-refused : {r : Step} → ReadIs s item (depth + 1) a.at a.draft r → ¬ (r.number ≡ 0) → ReadIs s (waits (joins c)) depth i d r
-  second-refused h z =
+  pub second_refused : {r : Step} → ReadIs s item (depth + 1) a.at a.draft r → ¬ (r.number ≡ 0) → ReadIs s (waits (joins c)) depth i d r
+  second_refused h z =
       record {
         read = λ y. absurd (z y);
-        refuses = λ _ σ e. q.goes (first_of c ∷ σ) (omega (arith, e)) ∙ h.refuses z (second-of c q.phrase ∷ σ) (omega (arith, e));
+        refuses = λ _ σ e. q.goes (first_of c ∷ σ) (omega (arith, e)) ∙ h.refuses z (second_of c q.phrase ∷ σ) (omega (arith, e));
       }
 
   module _ (b : Step) (u : Read s item (depth + 1) a.at a.draft b) where
-    pair-reach : (σ : List Frame) → length σ ≡ depth
+    pair_reach : (σ : List Frame) → length σ ≡ depth
         → outcome (held d.names) d.nodes (onward s (item (first_of c ∷ σ)) i) ≡ outcome (held b.draft.names) b.draft.nodes (onward s (shut (join c q.phrase u.phrase) σ) b.at)
-    pair-reach σ e = q.goes (first_of c ∷ σ) (omega (arith, e)) ∙ u.goes (second-of c q.phrase ∷ σ) (omega (arith, e))
+    pair_reach σ e = q.goes (first_of c ∷ σ) (omega (arith, e)) ∙ u.goes (second_of c q.phrase ∷ σ) (omega (arith, e))
 
-    later-place : i ≤ b.at
-    later-place = omega (arith, q.from, u.from)
+    later_place : i ≤ b.at
+    later_place = omega (arith, q.from, u.from)
 
     -- the second formula's names change no number of the first's
-    first-form : formIn b.draft q.phrase ≡ formIn a.draft q.phrase
-    first-form =
+    first_form : form_in b.draft q.phrase ≡ form_in a.draft q.phrase
+    first_form =
         let F = q.phrase in
-        let more : More (held a.draft.names) (held b.draft.names) = subst (λ (ms : List (List ℕ)). More (held a.draft.names) ms) (sym u.names) (more-collect u.phrase (held a.draft.names)) in
-        form-more F (held a.draft.names) (held b.draft.names) more (all_in F (held d.names) (held a.draft.names) ([], q.names ∙ sym (append-nil (collect (held d.names) F))))
+        let more : More (held a.draft.names) (held b.draft.names) = subst (λ (ms : List (List ℕ)). More (held a.draft.names) ms) (sym u.names) (more_collect u.phrase (held a.draft.names)) in
+        form_more F (held a.draft.names) (held b.draft.names) more (all_in F (held d.names) (held a.draft.names) ([], q.names ∙ sym (append-nil (collect (held d.names) F))))
 
-    pub pair_read : {n : ℕ} {t : List ℕ} → NodesIs b.draft.table b.draft.nodes (adds (joins c)) (joinTail c a.draft.nodes b.draft.nodes) n t
+    pub pair_read : {n : ℕ} {t : List ℕ} → NodesIs b.draft.table b.draft.nodes (adds (joins c)) (join_tail c a.draft.nodes b.draft.nodes) n t
         → (r : Reached) → ClosedIs s b.at n b.draft.names.count r → ReadIs s (waits (joins c)) depth i d (step r t b.draft.names.letters)
     unfolding collect form_of
     pair_read h r f =
-        let A = formIn b.draft q.phrase in
-        let B = formIn b.draft u.phrase in
-        let na : a.draft.nodes ≡ d.nodes + size_of A = q.nodes ∙ ap (λ (X : Form). d.nodes + size_of X) (sym first-form) in
+        let A = form_in b.draft q.phrase in
+        let B = form_in b.draft u.phrase in
+        let na : a.draft.nodes ≡ d.nodes + size_of A = q.nodes ∙ ap (λ (X : Form). d.nodes + size_of X) (sym first_form) in
         let nb : b.draft.nodes ≡ d.nodes + size_of A + size_of B = u.nodes ∙ ap (λ (n : ℕ). n + size_of B) na in
-        let bytes-a : bytes_of a.draft ≡ bytes_of d ++ listing d.nodes A = q.bytes ∙ ap (λ (X : Form). bytes_of d ++ listing d.nodes X) (sym first-form) in
-        let bytes-b : bytes_of b.draft ≡ bytes_of d ++ (listing d.nodes A ++ listing (d.nodes + size_of A) B) =
-        u.bytes ∙ ap₂ (λ (x : List ℕ) (n : ℕ). x ++ listing n B) bytes-a na ∙ append_assoc (bytes_of d) (listing d.nodes A) (listing (d.nodes + size_of A) B) in
-        let tail = joinTail c (d.nodes + size_of A) (d.nodes + size_of A + size_of B) in
-        list-closed s depth i d (waits (joins c)) (join c q.phrase u.phrase) b.draft b.at later-place pair-reach h u.fine.names
+        let bytes_a : bytes_of a.draft ≡ bytes_of d ++ listing d.nodes A = q.bytes ∙ ap (λ (X : Form). bytes_of d ++ listing d.nodes X) (sym first_form) in
+        let bytes_b : bytes_of b.draft ≡ bytes_of d ++ (listing d.nodes A ++ listing (d.nodes + size_of A) B) =
+        u.bytes ∙ ap₂ (λ (x : List ℕ) (n : ℕ). x ++ listing n B) bytes_a na ∙ append_assoc (bytes_of d) (listing d.nodes A) (listing (d.nodes + size_of A) B) in
+        let tail = join_tail c (d.nodes + size_of A) (d.nodes + size_of A + size_of B) in
+        list_closed s depth i d (waits (joins c)) (join c q.phrase u.phrase) b.draft b.at later_place pair_reach h u.fine.names
         (u.names ∙ ap (λ (ns : List (List ℕ)). collect ns u.phrase) q.names)
-        (omega (arith, nb, join-size c A B))
-        (ap₂ (λ (m n : ℕ). bytes_of b.draft ++ joinTail c m n) na nb ∙ ap (λ (x : List ℕ). x ++ tail) bytes-b
+        (omega (arith, nb, join_size c A B))
+        (ap₂ (λ (m n : ℕ). bytes_of b.draft ++ join_tail c m n) na nb ∙ ap (λ (x : List ℕ). x ++ tail) bytes_b
         ∙ append_assoc (bytes_of d) (listing d.nodes A ++ listing (d.nodes + size_of A) B) tail
-        ∙ ap (λ (x : List ℕ). bytes_of d ++ x) (append_assoc (listing d.nodes A) (listing (d.nodes + size_of A) B) tail ∙ join-listing c d.nodes A B)) r f
+        ∙ ap (λ (x : List ℕ). bytes_of d ++ x) (append_assoc (listing d.nodes A) (listing (d.nodes + size_of A) B) tail ∙ join_listing c d.nodes A B)) r f
 
 -- ---- a list of two terms
 
 module _ (s : List ℕ) (depth i : ℕ) (d : Draft) (c : Atom) (a : Taken) (x : Names) where
-  pub term-refused : OperandIs s false i d.names a x → ¬ (a.number ≡ 0) → {r : Step} → r.number ≡ a.number → r.at ≡ a.at → ReadIs s (waits (relates c)) depth i d r
-  term-refused h z e w = refuses-as s depth i d a.number a.at (omega (arith, z)) e w (λ σ t. h.refuses z d.nodes (start c) refl σ)
+  pub term_refused : OperandIs s false i d.names a x → ¬ (a.number ≡ 0) → {r : Step} → r.number ≡ a.number → r.at ≡ a.at → ReadIs s (waits (relates c)) depth i d r
+  term_refused h z e w = refuses_as s depth i d a.number a.at (omega (arith, z)) e w (λ σ t. h.refuses z d.nodes (start c) refl σ)
 
   module _ (q : Took s false i d.names a x) (b : Taken) (y : Names) where
-    pub other-refused : OperandIs s true a.at x b y → ¬ (b.number ≡ 0) → {r : Step} → r.number ≡ b.number → r.at ≡ b.at → ReadIs s (waits (relates c)) depth i d r
-    other-refused h z e w =
-        refuses-as s depth i d b.number b.at (omega (arith, z)) e w (λ σ t. q.goes d.nodes (start c) refl σ ∙ h.refuses z d.nodes (later c q.term) refl σ)
+    pub other_refused : OperandIs s true a.at x b y → ¬ (b.number ≡ 0) → {r : Step} → r.number ≡ b.number → r.at ≡ b.at → ReadIs s (waits (relates c)) depth i d r
+    other_refused h z e w =
+        refuses_as s depth i d b.number b.at (omega (arith, z)) e w (λ σ t. q.goes d.nodes (start c) refl σ ∙ h.refuses z d.nodes (later c q.term) refl σ)
 
     module _ (u : Took s true a.at x b y) where
       named : Draft
       named = record { table = d.table; nodes = d.nodes; names = y }
 
-      relation-reach : (σ : List Frame) → length σ ≡ depth
+      relation_reach : (σ : List Frame) → length σ ≡ depth
           → outcome (held d.names) d.nodes (onward s (arg (start c) σ) i) ≡ outcome (held y) d.nodes (onward s (shut (relate c q.term u.term) σ) b.at)
-      relation-reach σ e = q.goes d.nodes (start c) refl σ ∙ u.goes d.nodes (later c q.term) refl σ
+      relation_reach σ e = q.goes d.nodes (start c) refl σ ∙ u.goes d.nodes (later c q.term) refl σ
 
       further : i ≤ b.at
       further = omega (arith, q.from, u.from)
 
       -- the second name changes no number of the first
-      first-number : a.variable ≡ number_of (held y) q.term
-      first-number =
-          let more : More (held x) (held y) = subst (λ (ms : List (List ℕ)). More (held x) ms) (sym u.noted) (more-term (held x) u.term) in
-          q.number ∙ sym (number_more (held x) (held y) q.term more (subst (λ (ms : List (List ℕ)). TermIn ms q.term) (sym q.noted) (term-note (held d.names) q.term)))
+      first_number : a.variable ≡ number_of (held y) q.term
+      first_number =
+          let more : More (held x) (held y) = subst (λ (ms : List (List ℕ)). More (held x) ms) (sym u.noted) (more_term (held x) u.term) in
+          q.number ∙ sym (number_more (held x) (held y) q.term more (subst (λ (ms : List (List ℕ)). TermIn ms q.term) (sym q.noted) (term_note (held d.names) q.term)))
 
-      pub relation-read : {n : ℕ} {t : List ℕ} → NodesIs d.table d.nodes (adds (relates c)) (listing d.nodes (atomForm c a.variable b.variable)) n t
+      pub relation_read : {n : ℕ} {t : List ℕ} → NodesIs d.table d.nodes (adds (relates c)) (listing d.nodes (atom_form c a.variable b.variable)) n t
           → (r : Reached) → ClosedIs s b.at n y.count r → ReadIs s (waits (relates c)) depth i d (step r t y.letters)
       unfolding named collect form_of
-      relation-read h r f =
+      relation_read h r f =
           let X = number_of (held y) q.term in
           let Y = number_of (held y) u.term in
-          list-closed s depth i d (waits (relates c)) (relate c q.term u.term) named b.at further relation-reach h u.fine
-          (u.noted ∙ ap (λ (ns : List (List ℕ)). noteTerm ns u.term) q.noted)
-          (omega (arith, atom-size c X Y))
-          (ap₂ (λ (v w : ℕ). bytes_of d ++ listing d.nodes (atomForm c v w)) first-number u.number) r f
+          list_closed s depth i d (waits (relates c)) (relate c q.term u.term) named b.at further relation_reach h u.fine
+          (u.noted ∙ ap (λ (ns : List (List ℕ)). note_term ns u.term) q.noted)
+          (omega (arith, atom_size c X Y))
+          (ap₂ (λ (v w : ℕ). bytes_of d ++ listing d.nodes (atom_form c v w)) first_number u.number) r f
 
 -- ---- which list it is
 
-join-word : (w : ℕ) → w < 4 → joins (join_of w) ≡ word_of w
-join-word zero l = refl
-join-word (suc zero) l = refl
-join-word (suc (suc zero)) l = refl
-join-word (suc (suc (suc zero))) l = refl
-join-word (suc (suc (suc (suc w)))) l = absurd (omega arith)
+join_word : (w : ℕ) → w < 4 → joins (join_of w) ≡ word_of w
+join_word zero l = refl
+join_word (suc zero) l = refl
+join_word (suc (suc zero)) l = refl
+join_word (suc (suc (suc zero))) l = refl
+join_word (suc (suc (suc (suc w)))) l = absurd (omega arith)
 
-atom-word : (w : ℕ) → 5 ≤ w → w < 9 → relates (atomOf w) ≡ word_of w
-atom-word zero h l = absurd (omega arith)
-atom-word (suc zero) h l = absurd (omega arith)
-atom-word (suc (suc zero)) h l = absurd (omega arith)
-atom-word (suc (suc (suc zero))) h l = absurd (omega arith)
-atom-word (suc (suc (suc (suc zero)))) h l = absurd (omega arith)
-atom-word (suc (suc (suc (suc (suc zero))))) h l = refl
-atom-word (suc (suc (suc (suc (suc (suc zero)))))) h l = refl
-atom-word (suc (suc (suc (suc (suc (suc (suc zero))))))) h l = refl
-atom-word (suc (suc (suc (suc (suc (suc (suc (suc zero)))))))) h l = refl
-atom-word (suc (suc (suc (suc (suc (suc (suc (suc (suc w))))))))) h l = absurd (omega arith)
+atom_word : (w : ℕ) → 5 ≤ w → w < 9 → relates (atom_of w) ≡ word_of w
+atom_word zero h l = absurd (omega arith)
+atom_word (suc zero) h l = absurd (omega arith)
+atom_word (suc (suc zero)) h l = absurd (omega arith)
+atom_word (suc (suc (suc zero))) h l = absurd (omega arith)
+atom_word (suc (suc (suc (suc zero)))) h l = absurd (omega arith)
+atom_word (suc (suc (suc (suc (suc zero))))) h l = refl
+atom_word (suc (suc (suc (suc (suc (suc zero)))))) h l = refl
+atom_word (suc (suc (suc (suc (suc (suc (suc zero))))))) h l = refl
+atom_word (suc (suc (suc (suc (suc (suc (suc (suc zero)))))))) h l = refl
+atom_word (suc (suc (suc (suc (suc (suc (suc (suc (suc w))))))))) h l = absurd (omega arith)
 
 module _ (s : List ℕ) (depth i : ℕ) (d : Draft) (w : ℕ) (r : Step) where
-  pub joins-are : w < 4 → ReadIs s (waits (joins (join_of w))) depth i d r → ReadIs s (waits (word_of w)) depth i d r
-  joins-are l h = subst (λ (c : Word). ReadIs s (waits c) depth i d r) (join-word w l) h
+  pub joins_are : w < 4 → ReadIs s (waits (joins (join_of w))) depth i d r → ReadIs s (waits (word_of w)) depth i d r
+  joins_are l h = subst (λ (c : Word). ReadIs s (waits c) depth i d r) (join_word w l) h
 
-  pub relates-are : 5 ≤ w → w < 9 → ReadIs s (waits (relates (atomOf w))) depth i d r → ReadIs s (waits (word_of w)) depth i d r
-  relates-are l m h = subst (λ (c : Word). ReadIs s (waits c) depth i d r) (atom-word w l m) h
+  pub relates_are : 5 ≤ w → w < 9 → ReadIs s (waits (relates (atom_of w))) depth i d r → ReadIs s (waits (word_of w)) depth i d r
+  relates_are l m h = subst (λ (c : Word). ReadIs s (waits c) depth i d r) (atom_word w l m) h
 
 -- a list goes on behind the word that was said
 module _ (s : List ℕ) (i : ℕ) {x : Said} {e w : ℕ} (h : x ≡ Says e w) (q : WordIs s i x) where
-  pub word-said : WordIs s i (Says e w)
-  word-said = subst (WordIs s i) h q
+  pub word_said : WordIs s i (Says e w)
+  word_said = subst (WordIs s i) h q
 
-  pub list-said : (depth : ℕ) (d : Draft) (r : Step) (v : ℕ) → w ≡ v → ReadIs s (waits (word_of v)) depth e d r → ReadIs s head depth i d r
-  list-said depth d r v p k = moved s depth i d (waits (word_of v)) e (omega (arith, word-said.1)) (λ σ t. word-said.3 σ ∙ ap (λ (u : ℕ). onward s (waits (word_of u) σ) e) p) k
+  pub list_said : (depth : ℕ) (d : Draft) (r : Step) (v : ℕ) → w ≡ v → ReadIs s (waits (word_of v)) depth e d r → ReadIs s head depth i d r
+  list_said depth d r v p k = moved s depth i d (waits (word_of v)) e (omega (arith, word_said.1)) (λ σ t. word_said.3 σ ∙ ap (λ (u : ℕ). onward s (waits (word_of u) σ) e) p) k
 
 -- ---- an item
 
 module _ (s : List ℕ) (depth i : ℕ) (d : Draft) (j : ℕ) (k : Skipped s i j) (r : Step) where
-  pub item-empty : ReadIs s item depth j d r → ReadIs s item depth i d r
-  item-empty h = moved s depth i d item j k.from (λ σ e. skip-item s σ k.blanks) h
+  pub item_empty : ReadIs s item depth j d r → ReadIs s item depth i d r
+  item_empty h = moved s depth i d item j k.from (λ σ e. skip_item s σ k.blanks) h
 
-  pub item-list : Byte s 40 j → depth < deepest → ReadIs s head depth (j + 1) d r → ReadIs s item depth i d r
-  item-list q l h =
-      moved s depth i d head (j + 1) (omega (arith, k.from)) (λ σ e. skip-item s σ k.blanks ∙ run-open s σ q (omega (arith, e, l)) ∙ ap (onward s (head σ)) (sym (add-one j))) h
+  pub item_list : Byte s 40 j → depth < deepest → ReadIs s head depth (j + 1) d r → ReadIs s item depth i d r
+  item_list q l h =
+      moved s depth i d head (j + 1) (omega (arith, k.from)) (λ σ e. skip_item s σ k.blanks ∙ run_open s σ q (omega (arith, e, l)) ∙ ap (onward s (head σ)) (sym (add-one j))) h
 
-  pub item-deep : Byte s 40 j → deepest ≤ depth → r.number ≡ bad-text → r.at ≡ j → ReadIs s item depth i d r
+  pub item_deep : Byte s 40 j → deepest ≤ depth → r.number ≡ bad_text → r.at ≡ j → ReadIs s item depth i d r
   unfolding next alive
-  item-deep q l e a = stops_at s depth i d j e a (λ σ t. skip-item s σ k.blanks ∙ looks s (item σ) q ∙ rw (lt-leb (suc (length σ)) deepest (omega (arith, t, l))))
+  item_deep q l e a = stops_at s depth i d j e a (λ σ t. skip_item s σ k.blanks ∙ looks s (item σ) q ∙ rw (lt-leb (suc (length σ)) deepest (omega (arith, t, l))))

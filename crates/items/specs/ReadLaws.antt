@@ -4,46 +4,46 @@ use Rattle.std.proofs.Common.{sym, ap₂, ◌∙◌, subst, inl, inr, arith, le-
 use Rattle.std.proofs.Math.Path.{ap}
 use Rattle.std.proofs.Math.Decide.{ℕ_discrete}
 use Rattle.std.proofs.lemmas.Bool.{lt-leb}
-use Rattle.logic.specs.Book.{mostNodes}
-use Rattle.logic.specs.Numbers.{bad-text, many-nodes}
+use Rattle.logic.specs.Book.{most_nodes}
+use Rattle.logic.specs.Numbers.{bad_text, many_nodes}
 use Rattle.grammar.specs.Phrase.{Phrase, emp}
 use Rattle.grammar.specs.Grammar.{finished, Edge}
 use Rattle.grammar.specs.Machine.{Frame, Mode, item, shut, past, own, Trace, bad, emits}
 use Rattle.grammar.specs.Steps.{onward}
 use Rattle.grammar.specs.Listing.{size_of, listing}
-use Rattle.grammar.specs.ListingLaws.{size-some}
+use Rattle.grammar.specs.ListingLaws.{size_some}
 use Rattle.grammar.specs.Meaning.{collect, form_of}
 use Rattle.grammar.specs.Outcome.{outcome, refused}
 use Rattle.words.specs.Words.{EmpIs, ShutIs}
-use Rattle.words.specs.WordLaws.{emp-edge, emp-no-edge}
+use Rattle.words.specs.WordLaws.{emp_edge, emp_no_edge}
 use Rattle.words.specs.declared.Next.TheVariants.{At, Bad}
 use Rattle.names.specs.Names.{held, Fine as FineNames}
 use Rattle.draft.specs.Drafts.{NodesIs}
 use Rattle.items.specs.declared.Reached.{Reached}
-use Rattle.items.specs.Readings.{Draft, Step, step, ClosedIs, formIn, bytes_of, Read, ReadIs}
+use Rattle.items.specs.Readings.{Draft, Step, step, ClosedIs, form_in, bytes_of, Read, ReadIs}
 
 -- ---- nodes are added, within the most or past them
 
 module _ {t u : List ℕ} {n k r : ℕ} {bs : List ℕ} (h : NodesIs t n k bs r u) (ns : List (List ℕ)) (i : ℕ) (x : Trace) where
   within : ¬ (r ≡ 0) → outcome ns n (emits (finished (i - 1) k ∷ []) x) ≡ outcome ns r x
   unfolding outcome emits
-  within z = let q = h.fits z in rw (le-leb (n + k) mostNodes (omega (arith, q.ready.few, q.nodes))) (ap (λ (m : ℕ). outcome ns m x) (sym q.nodes))
+  within z = let q = h.fits z in rw (le-leb (n + k) most_nodes (omega (arith, q.ready.few, q.nodes))) (ap (λ (m : ℕ). outcome ns m x) (sym q.nodes))
 
-  passed : r ≡ 0 → outcome ns n (emits (finished (i - 1) k ∷ []) x) ≡ refused many-nodes (i - 1)
+  passed : r ≡ 0 → outcome ns n (emits (finished (i - 1) k ∷ []) x) ≡ refused many_nodes (i - 1)
   unfolding outcome emits
-  passed z = rw (lt-leb (n + k) mostNodes (h.passes z))
+  passed z = rw (lt-leb (n + k) most_nodes (h.passes z))
 
 module _ (s : List ℕ) (depth i : ℕ) (d : Draft) where
   -- ---- refusals
 
-  pub refuses-as : {m : List Frame → Mode} {r : Step} (k p : ℕ) → 0 < k → r.number ≡ k → r.at ≡ p
+  pub refuses_as : {m : List Frame → Mode} {r : Step} (k p : ℕ) → 0 < k → r.number ≡ k → r.at ≡ p
       → ((σ : List Frame) → length σ ≡ depth → outcome (held d.names) d.nodes (onward s (m σ) i) ≡ refused k p) → ReadIs s m depth i d r
-  refuses-as k p l e a f = record { read = λ z. absurd (omega (arith, e, z)); refuses = λ _ σ t. f σ t ∙ ap₂ refused (sym e) (sym a) }
+  refuses_as k p l e a f = record { read = λ z. absurd (omega (arith, e, z)); refuses = λ _ σ t. f σ t ∙ ap₂ refused (sym e) (sym a) }
 
   -- 26 at p
-  pub stops_at : {m : List Frame → Mode} {r : Step} (p : ℕ) → r.number ≡ bad-text → r.at ≡ p → ((σ : List Frame) → length σ ≡ depth → onward s (m σ) i ≡ bad p) → ReadIs s m depth i d r
+  pub stops_at : {m : List Frame → Mode} {r : Step} (p : ℕ) → r.number ≡ bad_text → r.at ≡ p → ((σ : List Frame) → length σ ≡ depth → onward s (m σ) i ≡ bad p) → ReadIs s m depth i d r
   unfolding outcome
-  stops_at p e a f = refuses-as bad-text p (omega arith) e a (λ σ t. ap (outcome (held d.names) d.nodes) (f σ t))
+  stops_at p e a f = refuses_as bad_text p (omega arith) e a (λ σ t. ap (outcome (held d.names) d.nodes) (f σ t))
 
   -- ---- what is read from j on is what is read from i on
 
@@ -66,26 +66,26 @@ module _ (s : List ℕ) (depth i : ℕ) (d : Draft) where
       }
 
   -- what is read has nodes
-  pub more-nodes : (m : List Frame → Mode) (r : Step) → Read s m depth i d r → d.nodes < r.draft.nodes
-  more-nodes m r q = omega (arith, q.nodes, size-some (formIn r.draft q.phrase))
+  pub more_nodes : (m : List Frame → Mode) (r : Step) → Read s m depth i d r → d.nodes < r.draft.nodes
+  more_nodes m r q = omega (arith, q.nodes, size_some (form_in r.draft q.phrase))
 
   -- ---- `sep.emp`
 
   module _ (e : ℕ) (q : EmpIs s i (At e)) {n : ℕ} {u : List ℕ} (h : NodesIs d.table d.nodes 1 (1 ∷ 0 ∷ 0 ∷ []) n u) where
-    pub emp-passes : n ≡ 0 → {r : Step} → r.number ≡ many-nodes → r.at ≡ e - 1 → ReadIs s item depth i d r
-    emp-passes z w a =
-        refuses-as many-nodes (e - 1) (omega arith) w a (λ σ l. ap (outcome (held d.names) d.nodes) (q.2 σ) ∙ passed h (held d.names) e (onward s (past true emp σ) e) z)
+    pub emp_passes : n ≡ 0 → {r : Step} → r.number ≡ many_nodes → r.at ≡ e - 1 → ReadIs s item depth i d r
+    emp_passes z w a =
+        refuses_as many_nodes (e - 1) (omega arith) w a (λ σ l. ap (outcome (held d.names) d.nodes) (q.2 σ) ∙ passed h (held d.names) e (onward s (past true emp σ) e) z)
 
     reach : ¬ (n ≡ 0) → (σ : List Frame) → outcome (held d.names) d.nodes (onward s (item σ) i) ≡ outcome (held d.names) n (onward s (past true emp σ) e)
     reach z σ = ap (outcome (held d.names) d.nodes) (q.2 σ) ∙ within h (held d.names) e (onward s (past true emp σ) e) z
 
-    pub emp-open : ¬ (n ≡ 0) → ¬ Edge s e → {r : Step} → r.number ≡ bad-text → r.at ≡ e → ReadIs s item depth i d r
+    pub emp_open : ¬ (n ≡ 0) → ¬ Edge s e → {r : Step} → r.number ≡ bad_text → r.at ≡ e → ReadIs s item depth i d r
     unfolding outcome
-    emp-open z g w a = refuses-as bad-text e (omega arith) w a (λ σ l. reach z σ ∙ ap (outcome (held d.names) n) (emp-no-edge s σ e g q.1))
+    emp_open z g w a = refuses_as bad_text e (omega arith) w a (λ σ l. reach z σ ∙ ap (outcome (held d.names) n) (emp_no_edge s σ e g q.1))
 
-    pub emp-read : ¬ (n ≡ 0) → Edge s e → FineNames d.names → ReadIs s item depth i d (record { number = 0; at = e; draft = record { table = u; nodes = n; names = d.names } })
+    pub emp_read : ¬ (n ≡ 0) → Edge s e → FineNames d.names → ReadIs s item depth i d (record { number = 0; at = e; draft = record { table = u; nodes = n; names = d.names } })
     unfolding collect form_of listing size_of
-    emp-read z g f =
+    emp_read z g f =
         let c = h.fits z in
         record {
           read = λ _.
@@ -97,7 +97,7 @@ module _ (s : List ℕ) (depth i : ℕ) (d : Draft) where
                 names = refl;
                 nodes = c.nodes;
                 bytes = c.bytes;
-                goes = λ σ l. reach z σ ∙ ap (outcome (held d.names) n) (emp-edge s σ e g);
+                goes = λ σ l. reach z σ ∙ ap (outcome (held d.names) n) (emp_edge s σ e g);
               };
           refuses = λ y. absurd (y refl);
         }
@@ -107,13 +107,13 @@ module _ (s : List ℕ) (depth i : ℕ) (d : Draft) where
   -- the formulas or terms of the list P are read: the draft is b, and its closing bracket is awaited from j on
   module _ (m : List Frame → Mode) (P : Phrase) (b : Draft) (j : ℕ) (l : i ≤ j)
       (reach : (σ : List Frame) → length σ ≡ depth → outcome (held d.names) d.nodes (onward s (m σ) i) ≡ outcome (held b.names) b.nodes (onward s (shut P σ) j)) where
-    list_open : (p : ℕ) → ShutIs s j (Bad p) → {r : Step} → r.number ≡ bad-text → r.at ≡ p → ReadIs s m depth i d r
+    list_open : (p : ℕ) → ShutIs s j (Bad p) → {r : Step} → r.number ≡ bad_text → r.at ≡ p → ReadIs s m depth i d r
     unfolding outcome
-    list_open p q w a = refuses-as bad-text p (omega arith) w a (λ σ t. reach σ t ∙ ap (outcome (held b.names) b.nodes) (q P σ))
+    list_open p q w a = refuses_as bad_text p (omega arith) w a (λ σ t. reach σ t ∙ ap (outcome (held b.names) b.nodes) (q P σ))
 
     module _ {bs u : List ℕ} {n : ℕ} (h : NodesIs b.table b.nodes (own P) bs n u)
         (fine : FineNames b.names) (names : held b.names ≡ collect (held d.names) P)
-        (size : b.nodes + own P ≡ d.nodes + size_of (formIn b P)) (bytes : bytes_of b ++ bs ≡ bytes_of d ++ listing d.nodes (formIn b P)) where
+        (size : b.nodes + own P ≡ d.nodes + size_of (form_in b P)) (bytes : bytes_of b ++ bs ≡ bytes_of d ++ listing d.nodes (form_in b P)) where
       list_done : (e : ℕ) → ShutIs s j (At e) → ¬ (n ≡ 0) → ReadIs s m depth i d (record { number = 0; at = e; draft = record { table = u; nodes = n; names = b.names } })
       list_done e q z =
           let c = h.fits z in
@@ -132,12 +132,12 @@ module _ (s : List ℕ) (depth i : ℕ) (d : Draft) where
             refuses = λ y. absurd (y refl);
           }
 
-      pub list-closed : (r : Reached) → ClosedIs s j n b.names.count r → ReadIs s m depth i d (step r u b.names.letters)
-      list-closed r (inr (p, q, w, a)) = list_open p q w a
-      list-closed r (inl (e, q, f)) = go (ℕ_discrete n 0)
+      pub list_closed : (r : Reached) → ClosedIs s j n b.names.count r → ReadIs s m depth i d (step r u b.names.letters)
+      list_closed r (inr (p, q, w, a)) = list_open p q w a
+      list_closed r (inl (e, q, f)) = go (ℕ_discrete n 0)
         where
           go : Dec (n ≡ 0) → ReadIs s m depth i d (step r u b.names.letters)
           go (no z) = subst (λ (x : Reached). ReadIs s m depth i d (step x u b.names.letters)) (sym (f.done z)) (list_done e q z)
           go (yes z) =
-              refuses-as many-nodes (e - 1) (omega arith) (f.passes z).0 (f.passes z).1
+              refuses_as many_nodes (e - 1) (omega arith) (f.passes z).0 (f.passes z).1
               (λ σ t. reach σ t ∙ ap (outcome (held b.names) b.nodes) (q.2 P σ) ∙ passed h (held b.names) e (onward s (past false P σ) e) z)

@@ -1,6 +1,6 @@
 -- What the readers of items and lists find. Assumes nothing: these are definitions.
 use Rattle.std.specs.Prelude.{◌≡◌, false, List, ◌++◌, ◌⊎◌, ℕ, ◌+◌, ◌-◌, ◌≤◌, ◌<◌, length}
-use Rattle.logic.specs.Numbers.{bad-text, many-nodes}
+use Rattle.logic.specs.Numbers.{bad_text, many_nodes}
 use Rattle.logic.specs.Formula.{Form}
 use Rattle.grammar.specs.Phrase.{Phrase}
 use Rattle.grammar.specs.Machine.{Frame, Mode, past}
@@ -11,7 +11,7 @@ use Rattle.grammar.specs.Outcome.{outcome, refused}
 use Rattle.words.specs.Words.{ShutIs}
 use Rattle.words.specs.declared.Next.TheVariants.{At, Bad}
 use Rattle.names.specs.Names.{Names, names as names_of, held, Fine as FineNames}
-use Rattle.draft.specs.Drafts.{bytesIn, Ready}
+use Rattle.draft.specs.Drafts.{bytes_in, Ready}
 use Rattle.items.specs.declared.Reached.{Reached}
 
 -- what has been read so far: the nodes in their table, and the names
@@ -38,22 +38,22 @@ step r t l = record { number = r.number; at = r.at; draft = draft t r.nodes l r.
 
 -- an item that ends before i, with n nodes and k names; n is 0 where the nodes are too many, and then it is refused at its last byte
 pub record FinishedIs (i n k : ℕ) (r : Reached) : Type 0 where
-  pub passes : n ≡ 0 → (r.number ≡ many-nodes) × (r.at ≡ i - 1)
+  pub passes : n ≡ 0 → (r.number ≡ many_nodes) × (r.at ≡ i - 1)
   pub done : ¬ (n ≡ 0) → r ≡ record { number = 0; at = i; nodes = n; names = k }
 
 -- a list whose closing bracket is awaited from i on, with n nodes and k names: it is finished behind the bracket, or refused where that is missed
 abbrev pub ClosedIs : List ℕ → ℕ → ℕ → ℕ → Reached → Type 0
 ClosedIs s i n k r =
     ((e : ℕ) × ShutIs s i (At e) × FinishedIs e n k r)
-    ⊎ ((p : ℕ) × ShutIs s i (Bad p) × (r.number ≡ bad-text) × (r.at ≡ p))
+    ⊎ ((p : ℕ) × ShutIs s i (Bad p) × (r.number ≡ bad_text) × (r.at ≡ p))
 
 -- the formula that a phrase is, over the names so far
-abbrev pub formIn : Draft → Phrase → Form
-formIn d F = form_of (number_of (held d.names)) F
+abbrev pub form_in : Draft → Phrase → Form
+form_in d F = form_of (number_of (held d.names)) F
 
 -- the bytes of the nodes so far
 abbrev pub bytes_of : Draft → List ℕ
-bytes_of d = bytesIn d.table d.nodes
+bytes_of d = bytes_in d.table d.nodes
 
 -- from i on, with the machine in the mode m inside so many lists, after the draft d
 module _ (s : List ℕ) (m : List Frame → Mode) (depth i : ℕ) (d : Draft) where
@@ -64,8 +64,8 @@ module _ (s : List ℕ) (m : List Frame → Mode) (depth i : ℕ) (d : Draft) wh
     pub inside : r.at ≤ length s
     pub fine : Fine r.draft
     pub names : held r.draft.names ≡ collect (held d.names) phrase
-    pub nodes : r.draft.nodes ≡ d.nodes + size_of (formIn r.draft phrase)
-    pub bytes : bytes_of r.draft ≡ bytes_of d ++ listing d.nodes (formIn r.draft phrase)
+    pub nodes : r.draft.nodes ≡ d.nodes + size_of (form_in r.draft phrase)
+    pub bytes : bytes_of r.draft ≡ bytes_of d ++ listing d.nodes (form_in r.draft phrase)
     pub goes : (σ : List Frame) → length σ ≡ depth
         → outcome (held d.names) d.nodes (onward s (m σ) i) ≡ outcome (held r.draft.names) r.draft.nodes (onward s (past false phrase σ) r.at)
 

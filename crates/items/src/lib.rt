@@ -5,7 +5,7 @@ ghost use Rattle.grammar.specs.Grammar.{Byte, deepest};
 ghost use Rattle.grammar.specs.Machine.{item as an_item, head};
 ghost use Rattle.grammar.specs.Steps.{waits};
 ghost use Rattle.words.specs.Words.{word_of, FreeItem};
-ghost use Rattle.items.specs.Readings.{draft as draft-of, Fine, step, FinishedIs, ClosedIs, ReadIs};
+ghost use Rattle.items.specs.Readings.{draft as draft_of, Fine, step, FinishedIs, ClosedIs, ReadIs};
 
 use draft::{denied, joined, one_node, related};
 use logic::Table;
@@ -82,8 +82,8 @@ fn empty(
     nodes: usize,
     names: usize,
 ) -> Reached
-    requires { (at ≤ length s.now) × FreeItem s.now at × Fine (draft-of table.old nodes letters.old names) }
-    ensures { ReadIs s.now an_item depth at (draft-of table.old nodes letters.old names) (step result table.new letters.new) }
+    requires { (at ≤ length s.now) × FreeItem s.now at × Fine (draft_of table.old nodes letters.old names) }
+    ensures { ReadIs s.now an_item depth at (draft_of table.old nodes letters.old names) (step result table.new letters.new) }
 {
     let found = emp(s, at);
     match found {
@@ -117,8 +117,8 @@ fn relation(
     nodes: usize,
     names: usize,
 ) -> Reached
-    requires { (at ≤ length s.now) × (5 ≤ w) × (w < 9) × Fine (draft-of table.old nodes letters.old names) }
-    ensures { ReadIs s.now (waits (word_of w)) depth at (draft-of table.old nodes letters.old names) (step result table.new letters.new) }
+    requires { (at ≤ length s.now) × (5 ≤ w) × (w < 9) × Fine (draft_of table.old nodes letters.old names) }
+    ensures { ReadIs s.now (waits (word_of w)) depth at (draft_of table.old nodes letters.old names) (step result table.new letters.new) }
 {
     let first = operand(letters, s, at, false, names);
     if first.number != logic::YES {
@@ -143,8 +143,8 @@ pub fn item(
     nodes: usize,
     names: usize,
 ) -> Reached
-    requires { (at ≤ length s.now) × (depth ≤ deepest) × Fine (draft-of table.old nodes letters.old names) }
-    ensures { ReadIs s.now an_item depth at (draft-of table.old nodes letters.old names) (step result table.new letters.new) }
+    requires { (at ≤ length s.now) × (depth ≤ deepest) × Fine (draft_of table.old nodes letters.old names) }
+    ensures { ReadIs s.now an_item depth at (draft_of table.old nodes letters.old names) (step result table.new letters.new) }
 {
     let from = skip(s, at);
     if opens(s, from) {
@@ -167,8 +167,8 @@ fn list(
     nodes: usize,
     names: usize,
 ) -> Reached
-    requires { (at ≤ length s.now) × (depth < deepest) × Fine (draft-of table.old nodes letters.old names) }
-    ensures { ReadIs s.now head depth at (draft-of table.old nodes letters.old names) (step result table.new letters.new) }
+    requires { (at ≤ length s.now) × (depth < deepest) × Fine (draft_of table.old nodes letters.old names) }
+    ensures { ReadIs s.now head depth at (draft_of table.old nodes letters.old names) (step result table.new letters.new) }
 {
     let said = word(s, at);
     match said {
@@ -196,8 +196,8 @@ fn single(
     nodes: usize,
     names: usize,
 ) -> Reached
-    requires { (at ≤ length s.now) × (depth < deepest) × Fine (draft-of table.old nodes letters.old names) }
-    ensures { ReadIs s.now (waits (word_of 4)) depth at (draft-of table.old nodes letters.old names) (step result table.new letters.new) }
+    requires { (at ≤ length s.now) × (depth < deepest) × Fine (draft_of table.old nodes letters.old names) }
+    ensures { ReadIs s.now (waits (word_of 4)) depth at (draft_of table.old nodes letters.old names) (step result table.new letters.new) }
 {
     let only = item(table, letters, s, at, depth + 1, nodes, names);
     if only.number != logic::YES {
@@ -219,8 +219,8 @@ fn pair(
     nodes: usize,
     names: usize,
 ) -> Reached
-    requires { (at ≤ length s.now) × (depth < deepest) × (w < 4) × Fine (draft-of table.old nodes letters.old names) }
-    ensures { ReadIs s.now (waits (word_of w)) depth at (draft-of table.old nodes letters.old names) (step result table.new letters.new) }
+    requires { (at ≤ length s.now) × (depth < deepest) × (w < 4) × Fine (draft_of table.old nodes letters.old names) }
+    ensures { ReadIs s.now (waits (word_of w)) depth at (draft_of table.old nodes letters.old names) (step result table.new letters.new) }
 {
     let first = item(table, letters, s, at, depth + 1, nodes, names);
     if first.number != logic::YES {

@@ -3,34 +3,34 @@ use Rattle.std.specs.Prelude.{◌≡◌, Bool, true, false, not, List, ℕ, suc,
 use Rattle.std.proofs.Common.{◌∙◌, ap, arith}
 use Rattle.logic.specs.Heap.{Map}
 use Rattle.logic.specs.Formula.{Form}
-use Rattle.logic.specs.Tests.{andb, orb, any, sepAt, septAt}
+use Rattle.logic.specs.Tests.{andb, orb, any, sep_at, sept_at}
 use Rattle.logic.specs.Truth.{truth}
-use Rattle.logic.specs.Table.{op_of, operandOf, join_of, joinFrom5, tree}
-use Rattle.judge.specs.Setting.{varsOf, locs_of, profileOf, stack_of, Ready, Joined, truth_of, truthAt, first_at, secondAt}
-use Rattle.logic.specs.NodeLaws.{child-operands, tree-join}
+use Rattle.logic.specs.Table.{op_of, operand_of, join_of, join_from5, tree}
+use Rattle.judge.specs.Setting.{vars_of, locs_of, profile_of, stack_of, Ready, Joined, truth_of, truth_at, first_at, second_at}
+use Rattle.logic.specs.NodeLaws.{child_operands, tree_join}
 
 -- a node's operator is 1 to 10
-pub operator-low : (f b : List ℕ) (k : ℕ) → Ready f b k → ¬ (op_of f k < 1)
-operator-low f b k rd l = omega (arith, (rd.sound k (omega arith)).operator)
+pub operator_low : (f b : List ℕ) (k : ℕ) → Ready f b k → ¬ (op_of f k < 1)
+operator_low f b k rd l = omega (arith, (rd.sound k (omega arith)).operator)
 
-pub operator-high : (f b : List ℕ) (k : ℕ) → Ready f b k → ¬ (11 ≤ op_of f k)
-operator-high f b k rd l = omega (arith, (rd.sound k (omega arith)).operator)
+pub operator_high : (f b : List ℕ) (k : ℕ) → Ready f b k → ¬ (11 ≤ op_of f k)
+operator_high f b k rd l = omega (arith, (rd.sound k (omega arith)).operator)
 
 module _ (f b : List ℕ) (k : ℕ) (jn : Joined f b k) where
-  pub lower-a : operandOf f k 0 < k
-  lower-a = (child-operands (varsOf b) f k (jn.ready.sound k (omega arith)) jn.operator).0
+  pub lower_a : operand_of f k 0 < k
+  lower_a = (child_operands (vars_of b) f k (jn.ready.sound k (omega arith)) jn.operator).0
 
-  pub lower-b : operandOf f k 1 < k
-  lower-b = (child-operands (varsOf b) f k (jn.ready.sound k (omega arith)) jn.operator).1
+  pub lower_b : operand_of f k 1 < k
+  lower_b = (child_operands (vars_of b) f k (jn.ready.sound k (omega arith)) jn.operator).1
 
-  pub ready-below : (x : ℕ) → x < k → Ready f b x
-  ready-below x l =
+  pub ready_below : (x : ℕ) → x < k → Ready f b x
+  ready_below x l =
       let rd = jn.ready in
       record {
         inside = omega (arith, rd.inside);
         sound = λ j h. rd.sound j (omega arith);
-        fewVars = rd.fewVars;
-        fewLocs = rd.fewLocs;
+        few_vars = rd.few_vars;
+        few_locs = rd.few_locs;
         listed = rd.listed;
         stack = rd.stack;
         barred = rd.barred;
@@ -38,33 +38,33 @@ module _ (f b : List ℕ) (k : ℕ) (jn : Joined f b k) where
 
   -- by operator
   module _ (h : Map) where
-    joined : truthAt f b k h ≡ truth_of b (join_of (op_of f k) (tree f (operandOf f k 0)) (tree f (operandOf f k 1))) h
-    joined = ap (λ (F : Form). truth_of b F h) (tree-join (varsOf b) f (suc k) jn.ready.sound k (omega arith) jn.operator)
+    joined : truth_at f b k h ≡ truth_of b (join_of (op_of f k) (tree f (operand_of f k 0)) (tree f (operand_of f k 1))) h
+    joined = ap (λ (F : Form). truth_of b F h) (tree_join (vars_of b) f (suc k) jn.ready.sound k (omega arith) jn.operator)
 
-    pub truth-5 : op_of f k ≡ 5 → truthAt f b k h ≡ andb (first_at f b k h) (secondAt f b k h)
-    unfolding truth join_of joinFrom5
-    truth-5 e = joined ∙ rw e
+    pub truth_5 : op_of f k ≡ 5 → truth_at f b k h ≡ andb (first_at f b k h) (second_at f b k h)
+    unfolding truth join_of join_from5
+    truth_5 e = joined ∙ rw e
 
-    pub truth-6 : op_of f k ≡ 6 → truthAt f b k h ≡ orb (first_at f b k h) (secondAt f b k h)
-    unfolding truth join_of joinFrom5
-    truth-6 e = joined ∙ rw e
+    pub truth_6 : op_of f k ≡ 6 → truth_at f b k h ≡ orb (first_at f b k h) (second_at f b k h)
+    unfolding truth join_of join_from5
+    truth_6 e = joined ∙ rw e
 
-    pub truth-7 : op_of f k ≡ 7 → truthAt f b k h ≡ andb (first_at f b k h) (not (secondAt f b k h))
-    unfolding truth join_of joinFrom5
-    truth-7 e = joined ∙ rw e
+    pub truth_7 : op_of f k ≡ 7 → truth_at f b k h ≡ andb (first_at f b k h) (not (second_at f b k h))
+    unfolding truth join_of join_from5
+    truth_7 e = joined ∙ rw e
 
-    pub truth-8 : op_of f k ≡ 8 → truthAt f b k h ≡ not (first_at f b k h)
-    unfolding truth join_of joinFrom5
-    truth-8 e = joined ∙ rw e
+    pub truth_8 : op_of f k ≡ 8 → truth_at f b k h ≡ not (first_at f b k h)
+    unfolding truth join_of join_from5
+    truth_8 e = joined ∙ rw e
 
-    pub truth-9 : op_of f k ≡ 9 → truthAt f b k h ≡ any (2 ^ locs_of b) (sepAt (profileOf b) (varsOf b) (locs_of b) (stack_of b) h (first_at f b k) (secondAt f b k))
-    unfolding truth join_of joinFrom5
-    truth-9 e = joined ∙ rw e
+    pub truth_9 : op_of f k ≡ 9 → truth_at f b k h ≡ any (2 ^ locs_of b) (sep_at (profile_of b) (vars_of b) (locs_of b) (stack_of b) h (first_at f b k) (second_at f b k))
+    unfolding truth join_of join_from5
+    truth_9 e = joined ∙ rw e
 
     -- the operator is none of the others
-    pub truth-10 : ¬ (op_of f k ≡ 5) → ¬ (op_of f k ≡ 6) → ¬ (op_of f k ≡ 7) → ¬ (op_of f k ≡ 8) → ¬ (op_of f k ≡ 9) → truthAt f b k h ≡ any ((locs_of b + 2) ^ locs_of b) (septAt (profileOf b) (varsOf b) (locs_of b) (stack_of b) h (first_at f b k) (secondAt f b k))
-    unfolding truth join_of joinFrom5
-    truth-10 n5 n6 n7 n8 n9 = let e : op_of f k ≡ 10 = omega (arith, (jn.ready.sound k (omega arith)).operator, jn.operator) in joined ∙ rw e
+    pub truth_10 : ¬ (op_of f k ≡ 5) → ¬ (op_of f k ≡ 6) → ¬ (op_of f k ≡ 7) → ¬ (op_of f k ≡ 8) → ¬ (op_of f k ≡ 9) → truth_at f b k h ≡ any ((locs_of b + 2) ^ locs_of b) (sept_at (profile_of b) (vars_of b) (locs_of b) (stack_of b) h (first_at f b k) (second_at f b k))
+    unfolding truth join_of join_from5
+    truth_10 n5 n6 n7 n8 n9 = let e : op_of f k ≡ 10 = omega (arith, (jn.ready.sound k (omega arith)).operator, jn.operator) in joined ∙ rw e
 
 -- a test that is worked out up to where it is decided
 pub and_first : (p q : Bool) → p ≡ false → false ≡ andb p q

@@ -4,9 +4,9 @@ use Rattle.logic.specs.declared.Profile.{Profile}
 use Rattle.logic.specs.declared.Profile.TheVariants.{Strong, Ordinary}
 use Rattle.logic.specs.Heap.{Map, Stack, Heap, Disjoint}
 use Rattle.logic.specs.Formula.{Form}
-use Rattle.logic.specs.Table.{op_of, operandOf, Sound, tree}
-use Rattle.logic.specs.Book.{mostNodes, most as mostListed}
-use Rattle.logic.specs.Tests.{inPart, union, sepAt}
+use Rattle.logic.specs.Table.{op_of, operand_of, Sound, tree}
+use Rattle.logic.specs.Book.{most_nodes, most as most_listed}
+use Rattle.logic.specs.Tests.{in_part, union, sep_at}
 use Rattle.logic.specs.Truth.{truth}
 use Rattle.logic.specs.Reflect.{Is}
 use Rattle.pairs.specs.Pairs.{part_at, Inside}
@@ -14,41 +14,41 @@ use Rattle.cells.specs.Cells.{most, full, cells, Sub, Barred, Touches, Met}
 
 -- a setting b has six numbers, the same for every node: v, n, p, the packed stack, the set of the locations where two pieces
 -- may not meet, and the profile
-abbrev pub varsOf : List ℕ → ℕ
-varsOf b = get_or b 0 0
+abbrev pub vars_of : List ℕ → ℕ
+vars_of b = get_or b 0 0
 
 abbrev pub locs_of : List ℕ → ℕ
 locs_of b = get_or b 1 0
 
-abbrev pub pathOf : List ℕ → ℕ
-pathOf b = get_or b 2 0
+abbrev pub path_of : List ℕ → ℕ
+path_of b = get_or b 2 0
 
 abbrev pub stack_of : List ℕ → Map
 stack_of b = cells (get_or b 3 0)
 
-abbrev pub barredOf : List ℕ → ℕ
-barredOf b = get_or b 4 0
+abbrev pub barred_of : List ℕ → ℕ
+barred_of b = get_or b 4 0
 
-abbrev pub profileFrom : ℕ → Profile
-profileFrom zero = Strong
-profileFrom (suc _) = Ordinary
+abbrev pub profile_from : ℕ → Profile
+profile_from zero = Strong
+profile_from (suc _) = Ordinary
 
-abbrev pub profileOf : List ℕ → Profile
-profileOf b = profileFrom (get_or b 5 0)
+abbrev pub profile_of : List ℕ → Profile
+profile_of b = profile_from (get_or b 5 0)
 
 -- as many nodes as a table has room for
 abbrev pub room : ℕ
-room = mostNodes
+room = most_nodes
 
 -- node k of table f can be judged in setting b: the nodes up to it are as they should be, and the setting is right
 pub record Ready (f b : List ℕ) (k : ℕ) : Type 0 where
   pub inside : k < room
-  pub sound : Sound (varsOf b) f (suc k)
-  pub fewVars : varsOf b ≤ most
-  pub fewLocs : locs_of b ≤ most
-  pub listed : locs_of b ≤ mostListed
-  pub stack : Stack (varsOf b) (locs_of b) (stack_of b)
-  pub barred : Barred (profileOf b) (varsOf b) (locs_of b) (stack_of b) (barredOf b)
+  pub sound : Sound (vars_of b) f (suc k)
+  pub few_vars : vars_of b ≤ most
+  pub few_locs : locs_of b ≤ most
+  pub listed : locs_of b ≤ most_listed
+  pub stack : Stack (vars_of b) (locs_of b) (stack_of b)
+  pub barred : Barred (profile_of b) (vars_of b) (locs_of b) (stack_of b) (barred_of b)
 
 -- and it is a connective, whose children are lower nodes
 pub record Joined (f b : List ℕ) (k : ℕ) : Type 0 where
@@ -57,21 +57,21 @@ pub record Joined (f b : List ℕ) (k : ℕ) : Type 0 where
 
 -- the truth of a formula, and of node k, in setting b
 abbrev pub truth_of : List ℕ → Form → Map → Bool
-truth_of b F h = truth (profileOf b) (varsOf b) (locs_of b) F (stack_of b) h
+truth_of b F h = truth (profile_of b) (vars_of b) (locs_of b) F (stack_of b) h
 
-abbrev pub truthAt : List ℕ → List ℕ → ℕ → Map → Bool
-truthAt f b k h = truth_of b (tree f k) h
+abbrev pub truth_at : List ℕ → List ℕ → ℕ → Map → Bool
+truth_at f b k h = truth_of b (tree f k) h
 
 -- and of its children
 abbrev pub first_at : List ℕ → List ℕ → ℕ → Map → Bool
-first_at f b k h = truthAt f b (operandOf f k 0) h
+first_at f b k h = truth_at f b (operand_of f k 0) h
 
-abbrev pub secondAt : List ℕ → List ℕ → ℕ → Map → Bool
-secondAt f b k h = truthAt f b (operandOf f k 1) h
+abbrev pub second_at : List ℕ → List ℕ → ℕ → Map → Bool
+second_at f b k h = truth_at f b (operand_of f k 1) h
 
 -- part m of the heap w serves for node k's first child, and the rest for its second
-abbrev pub servesAt : List ℕ → List ℕ → ℕ → ℕ → ℕ → Bool
-servesAt f b k w m = sepAt (profileOf b) (varsOf b) (locs_of b) (stack_of b) (cells w) (first_at f b k) (secondAt f b k) m
+abbrev pub serves_at : List ℕ → List ℕ → ℕ → ℕ → ℕ → Bool
+serves_at f b k w m = sep_at (profile_of b) (vars_of b) (locs_of b) (stack_of b) (cells w) (first_at f b k) (second_at f b k) m
 
 -- r is the lowest number below k that passes F, or the mark that none does
 pub data Chosen (F : ℕ → Bool) (k r : ℕ) : Type 0 where
@@ -99,10 +99,10 @@ SomeAt π v n s A B h l y d = (z : Map) × Serves π v n s A B h z × Above l z 
 
 -- r says whether some heap that is g above location l serves for node k's children, with the heap w
 abbrev pub Found : List ℕ → List ℕ → ℕ → ℕ → ℕ → ℕ → Bool → Type 0
-Found f b k w l g r = Is r (Some (profileOf b) (varsOf b) (locs_of b) (stack_of b) (first_at f b k) (secondAt f b k) (cells w) l (cells g))
+Found f b k w l g r = Is r (Some (profile_of b) (vars_of b) (locs_of b) (stack_of b) (first_at f b k) (second_at f b k) (cells w) l (cells g))
 
 abbrev pub FoundAt : List ℕ → List ℕ → ℕ → ℕ → ℕ → ℕ → ℕ → Bool → Type 0
-FoundAt f b k w l g d r = Is r (SomeAt (profileOf b) (varsOf b) (locs_of b) (stack_of b) (first_at f b k) (secondAt f b k) (cells w) l (cells g) d)
+FoundAt f b k w l g d r = Is r (SomeAt (profile_of b) (vars_of b) (locs_of b) (stack_of b) (first_at f b k) (second_at f b k) (cells w) l (cells g) d)
 
 -- g is filled above location l: it has nothing up to l, nothing where w has a cell, and touches none of met, which are the
 -- barred locations of w
@@ -111,7 +111,7 @@ pub record Filled (n u w met l g : ℕ) : Type 0 where
   pub heap : Heap n (cells g)
   pub below : (ℓ : ℕ) → ℓ ≤ l → cells g ℓ ≡ 0
   pub free : (ℓ : ℕ) → (cells g ℓ ≡ 0) ⊎ (cells w ℓ ≡ 0)
-  pub quiet : (ℓ j : ℕ) → Touches ℓ (cells g ℓ) j → ¬ (inPart met j ≡ true)
+  pub quiet : (ℓ j : ℕ) → Touches ℓ (cells g ℓ) j → ¬ (in_part met j ≡ true)
   pub meets : Met u w met
 
 -- no heap that serves, and is y above location l, has a digit below d at l

@@ -7,7 +7,7 @@ ghost use Rattle.logic.specs.Reflect.{Is};
 ghost use Rattle.logic.specs.Model.{Fits};
 ghost use Rattle.cells.specs.Cells.{full, cells, Tabled, Source, SourceBelow};
 ghost use Rattle.pairs.specs.Pairs.{Lists};
-ghost use Rattle.judge.specs.Setting.{varsOf, locs_of, pathOf, profileFrom, profileOf, stack_of, barredOf, Ready, Joined, truthAt, first_at, secondAt, servesAt, Chosen, Found, FoundAt, Filled};
+ghost use Rattle.judge.specs.Setting.{vars_of, locs_of, path_of, profile_from, profile_of, stack_of, barred_of, Ready, Joined, truth_at, first_at, second_at, serves_at, Chosen, Found, FoundAt, Filled};
 
 use cells::{
     cell, is_empty, is_list, is_points, is_target, met, parts_apart, placed, source_below, spread,
@@ -23,7 +23,7 @@ pub const NONE: u64 = 256;
 
 // The profile's number in a setting. No step reads it: it says which truth the setting is for.
 pub fn number(profile: Profile) -> u64
-    ensures { profileFrom result ≡ profile }
+    ensures { profile_from result ≡ profile }
 {
     match profile {
         Profile::Strong => 0,
@@ -34,7 +34,7 @@ pub fn number(profile: Profile) -> u64
 // Operators 1 to 4, over variables.
 fn atom(f: &Table, k: usize, b: &[u64; 6], w: u64) -> bool
     requires { (op_of f.now k ≤ 4) × Ready f.now b.now k × Heap (locs_of b.now) (cells w) }
-    ensures { result ≡ truthAt f.now b.now k (cells w) }
+    ensures { result ≡ truth_at f.now b.now k (cells w) }
 {
     let op = f[3 * k];
     let x = cell(b[3], long(f[3 * k + 1]));
@@ -52,7 +52,7 @@ fn atom(f: &Table, k: usize, b: &[u64; 6], w: u64) -> bool
 // sets and parts for as many locations or more.
 pub fn node_holds(f: &Table, k: usize, b: &[u64; 6], w: u64, pairs: &&[u16]) -> bool
     requires { Ready f.now b.now k × Heap (locs_of b.now) (cells w) × Lists (locs_of b.now) pairs.now.now }
-    ensures { result ≡ truthAt f.now b.now k (cells w) }
+    ensures { result ≡ truth_at f.now b.now k (cells w) }
 {
     let op = f[3 * k];
     match op {
@@ -67,7 +67,7 @@ pub fn node_holds(f: &Table, k: usize, b: &[u64; 6], w: u64, pairs: &&[u16]) -> 
 #[cycle(a_holds_added_b_holds_both_child_holds_digit_fill_join_serves_split)]
 fn child_holds(f: &Table, k: usize, b: &[u64; 6], w: u64, pairs: &&[u16]) -> bool
     requires { Ready f.now b.now k × Heap (locs_of b.now) (cells w) × Lists (locs_of b.now) pairs.now.now }
-    ensures { result ≡ truthAt f.now b.now k (cells w) }
+    ensures { result ≡ truth_at f.now b.now k (cells w) }
 {
     let op = f[3 * k];
     if op == 8 {
@@ -91,7 +91,7 @@ fn a_holds(f: &Table, k: usize, b: &[u64; 6], w: u64, pairs: &&[u16]) -> bool
 #[cycle(a_holds_added_b_holds_both_child_holds_digit_fill_join_serves_split)]
 fn b_holds(f: &Table, k: usize, b: &[u64; 6], w: u64, pairs: &&[u16]) -> bool
     requires { Joined f.now b.now k × Heap (locs_of b.now) (cells w) × Lists (locs_of b.now) pairs.now.now }
-    ensures { result ≡ secondAt f.now b.now k (cells w) }
+    ensures { result ≡ second_at f.now b.now k (cells w) }
 {
     child_holds(f, wide(f[3 * k + 2]), b, w, pairs)
 }
@@ -100,7 +100,7 @@ fn b_holds(f: &Table, k: usize, b: &[u64; 6], w: u64, pairs: &&[u16]) -> bool
 #[cycle(a_holds_added_b_holds_both_child_holds_digit_fill_join_serves_split)]
 fn both(f: &Table, k: usize, b: &[u64; 6], g: u64, h: u64, pairs: &&[u16]) -> bool
     requires { Joined f.now b.now k × Heap (locs_of b.now) (cells g) × Heap (locs_of b.now) (cells h) × Lists (locs_of b.now) pairs.now.now }
-    ensures { result ≡ andb (first_at f.now b.now k (cells g)) (secondAt f.now b.now k (cells h)) }
+    ensures { result ≡ andb (first_at f.now b.now k (cells g)) (second_at f.now b.now k (cells h)) }
 {
     if a_holds(f, k, b, g, pairs) {
         b_holds(f, k, b, h, pairs)
@@ -113,7 +113,7 @@ fn both(f: &Table, k: usize, b: &[u64; 6], g: u64, h: u64, pairs: &&[u16]) -> bo
 #[cycle(a_holds_added_b_holds_both_child_holds_digit_fill_join_serves_split)]
 fn join(f: &Table, k: usize, b: &[u64; 6], w: u64, pairs: &&[u16]) -> bool
     requires { Joined f.now b.now k × Heap (locs_of b.now) (cells w) × Lists (locs_of b.now) pairs.now.now }
-    ensures { result ≡ truthAt f.now b.now k (cells w) }
+    ensures { result ≡ truth_at f.now b.now k (cells w) }
 {
     let op = f[3 * k];
     match op {
@@ -143,7 +143,7 @@ fn join(f: &Table, k: usize, b: &[u64; 6], w: u64, pairs: &&[u16]) -> bool
 #[cycle(a_holds_added_b_holds_both_child_holds_digit_fill_join_serves_split)]
 fn split(f: &Table, k: usize, b: &[u64; 6], w: u64, pairs: &&[u16]) -> u64
     requires { Joined f.now b.now k × Heap (locs_of b.now) (cells w) × Lists (locs_of b.now) pairs.now.now }
-    ensures { Chosen (servesAt f.now b.now k w) (2 ^ locs_of b.now) result }
+    ensures { Chosen (serves_at f.now b.now k w) (2 ^ locs_of b.now) result }
 {
     let a = taken(w);
     let t = table(b[4], w);
@@ -165,8 +165,8 @@ fn split(f: &Table, k: usize, b: &[u64; 6], w: u64, pairs: &&[u16]) -> u64
 // Whether part m of w serves, where all its locations are allocated; t is w's table.
 #[cycle(a_holds_added_b_holds_both_child_holds_digit_fill_join_serves_split)]
 fn serves(f: &Table, k: usize, b: &[u64; 6], w: u64, t: u64, m: u64, pairs: &&[u16]) -> bool
-    requires { Joined f.now b.now k × Heap (locs_of b.now) (cells w) × Tabled (barredOf b.now) w t × (m < full) × (within (locs_of b.now) m (cells w) ≡ true) × Lists (locs_of b.now) pairs.now.now }
-    ensures { result ≡ servesAt f.now b.now k w m }
+    requires { Joined f.now b.now k × Heap (locs_of b.now) (cells w) × Tabled (barred_of b.now) w t × (m < full) × (within (locs_of b.now) m (cells w) ≡ true) × Lists (locs_of b.now) pairs.now.now }
+    ensures { result ≡ serves_at f.now b.now k w m }
 {
     let e = spread(m);
     if !parts_apart(t, e) {
@@ -204,7 +204,7 @@ fn fill(
     g: u64,
     pairs: &&[u16],
 ) -> bool
-    requires { Joined f.now b.now k × Heap (locs_of b.now) (cells w) × Filled (locs_of b.now) (barredOf b.now) w barred l g × (0 < l) × Source w barred l × Lists (locs_of b.now) pairs.now.now }
+    requires { Joined f.now b.now k × Heap (locs_of b.now) (cells w) × Filled (locs_of b.now) (barred_of b.now) w barred l g × (0 < l) × Source w barred l × Lists (locs_of b.now) pairs.now.now }
     ensures { Found f.now b.now k w l g result }
 {
     let next = source_below(w, barred, l - 1);
@@ -233,7 +233,7 @@ fn digit(
     d: u64,
     pairs: &&[u16],
 ) -> bool
-    requires { Joined f.now b.now k × Heap (locs_of b.now) (cells w) × Filled (locs_of b.now) (barredOf b.now) w barred l g × (0 < l) × Source w barred l × (next < l) × SourceBelow w barred (l - 1) next × (d ≤ suc (locs_of b.now)) × Lists (locs_of b.now) pairs.now.now }
+    requires { Joined f.now b.now k × Heap (locs_of b.now) (cells w) × Filled (locs_of b.now) (barred_of b.now) w barred l g × (0 < l) × Source w barred l × (next < l) × SourceBelow w barred (l - 1) next × (d ≤ suc (locs_of b.now)) × Lists (locs_of b.now) pairs.now.now }
     ensures { FoundAt f.now b.now k w l g d result }
 {
     if !is_target(barred, d) {
@@ -249,7 +249,7 @@ fn digit(
 // The same as `join` with a table of its own, the short one.
 fn few_hold(f: &Table, k: usize, b: &[u64; 6], w: u64) -> bool
     requires { Joined f.now b.now k × Heap (locs_of b.now) (cells w) × (locs_of b.now ≤ 6) }
-    ensures { result ≡ truthAt f.now b.now k (cells w) }
+    ensures { result ≡ truth_at f.now b.now k (cells w) }
 {
     let few = pairs::few();
     let list: &[u16] = &few;
@@ -259,7 +259,7 @@ fn few_hold(f: &Table, k: usize, b: &[u64; 6], w: u64) -> bool
 // And with the one for all sets.
 fn all_hold(f: &Table, k: usize, b: &[u64; 6], w: u64) -> bool
     requires { Joined f.now b.now k × Heap (locs_of b.now) (cells w) }
-    ensures { result ≡ truthAt f.now b.now k (cells w) }
+    ensures { result ≡ truth_at f.now b.now k (cells w) }
 {
     let all = allpairs::all();
     let list: &[u16] = &all;
@@ -271,7 +271,7 @@ fn all_hold(f: &Table, k: usize, b: &[u64; 6], w: u64) -> bool
 // all its candidates. The two functions are apart, since the long one's room on the stack is made where a function begins.
 fn root_holds(f: &Table, k: usize, b: &[u64; 6], w: u64) -> bool
     requires { Ready f.now b.now k × Heap (locs_of b.now) (cells w) }
-    ensures { result ≡ truthAt f.now b.now k (cells w) }
+    ensures { result ≡ truth_at f.now b.now k (cells w) }
 {
     let op = f[3 * k];
     if op <= 4 {
@@ -286,7 +286,7 @@ fn root_holds(f: &Table, k: usize, b: &[u64; 6], w: u64) -> bool
 // Whether the heap w fits node k of the table f, as a model's heap does: the node holds, and no path is too long.
 pub fn fits(f: &Table, k: usize, b: &[u64; 6], w: u64) -> bool
     requires { Ready f.now b.now k × Heap (locs_of b.now) (cells w) }
-    ensures { Is result (Fits (profileOf b.now) (varsOf b.now) (locs_of b.now) (pathOf b.now) (tree f.now k) (stack_of b.now) (cells w)) }
+    ensures { Is result (Fits (profile_of b.now) (vars_of b.now) (locs_of b.now) (path_of b.now) (tree f.now k) (stack_of b.now) (cells w)) }
 {
     if root_holds(f, k, b, w) {
         is_short(b[1], b[2], w)

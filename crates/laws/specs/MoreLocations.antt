@@ -14,21 +14,21 @@ use Rattle.logic.specs.Heap.{Map, Stack}
 use Rattle.logic.specs.Formula.{Form}
 use Rattle.logic.specs.Formula.Form.{same, diff, pts, ls, conj, disj, but, neg, sep, sept}
 use Rattle.logic.specs.Holds.{Holds}
-use Rattle.logic.specs.Tests.{pick, heapOf}
-use Rattle.logic.specs.Agree.{heap-more, heapOf-heap}
+use Rattle.logic.specs.Tests.{pick, heap_of}
+use Rattle.logic.specs.Agree.{heap_more, heap_of_heap}
 use Rattle.logic.specs.Table.{tree}
-use Rattle.logic.specs.Book.{bookFormula, varsOf, locs_of, pathOf, root}
-use Rattle.logic.specs.Model.{stackIn, heapIn, digitOf, modelChecks, Fits, FitsBook}
+use Rattle.logic.specs.Book.{book_formula, vars_of, locs_of, path_of, root}
+use Rattle.logic.specs.Model.{stack_in, heap_in, digit_of, model_checks, Fits, FitsBook}
 use Rattle.logic.specs.Candidates.{total, stack_of, number_of}
-use Rattle.logic.specs.CandidateLaws.{stackOf-stack, number_lt, stack-of-number, heap-of-number}
+use Rattle.logic.specs.CandidateLaws.{stack_of_stack, number_lt, stack_of_number, heap_of_its_number}
 use Rattle.logic.specs.Search.{CandidateFits, FitsAt, total_of}
 use Rattle.laws.specs.Negations.{NoSeptraction, NoneUnderNegation}
 use Rattle.laws.specs.Wider.{Wider, widened}
-use Rattle.laws.specs.NeverNone.{NeverNone, never-none}
-use Rattle.laws.specs.LongerPaths.{fits-longer}
+use Rattle.laws.specs.NeverNone.{NeverNone, never_none}
+use Rattle.laws.specs.LongerPaths.{fits_longer}
 
-pub stack-more : (v n n' : ℕ) (s : Map) → n ≤ n' → Stack v n s → Stack v n' s
-stack-more v n n' s l k = record { nil = k.nil; low = λ x. omega (arith, k.low x); past = k.past }
+pub stack_more : (v n n' : ℕ) (s : Map) → n ≤ n' → Stack v n s → Stack v n' s
+stack_more v n n' s l k = record { nil = k.nil; low = λ x. omega (arith, k.low x); past = k.past }
 
 module _ (π : Profile) (v : ℕ) where
   -- without septraction the truth is the same at all n and n', both ways
@@ -60,85 +60,85 @@ module _ (π : Profile) (v : ℕ) where
   holds_more (sep a b) n n' s h l c q =
       (q.0, q.1, q.2, q.3, holds_more a n n' s q.0 l c.0 q.4, holds_more b n n' s q.1 l c.1 q.5)
   holds_more (sept a b) n n' s h l c q =
-      (q.0, q.1, heap-more n n' q.0 l q.2, q.3, q.4, holds_more a n n' s q.0 l c.0 q.5, holds_more b n n' s q.1 l c.1 q.6)
+      (q.0, q.1, heap_more n n' q.0 l q.2, q.3, q.4, holds_more a n n' s q.0 l c.0 q.5, holds_more b n n' s q.1 l c.1 q.6)
 
   -- and what fits at n and p fits at every n' from n on and every p' from p on
   pub fits_more : (F : Form) (n n' p p' : ℕ) (s h : Map) → n ≤ n' → p ≤ p' → NoneUnderNegation F → Fits π v n p F s h → Fits π v n' p' F s h
-  fits_more F n n' p p' s h l m c q = fits-longer π v n' p p' F s h m (holds_more F n n' s h l c q.0, q.1)
+  fits_more F n n' p p' s h l m c q = fits_longer π v n' p p' F s h m (holds_more F n n' s h l c q.0, q.1)
 
 -- a candidate that fits at n is a candidate that fits at n', of another number
-pub candidate-more : (π : Profile) (v n n' p p' : ℕ) (F : Form) (c : ℕ) → n ≤ n' → p ≤ p' → NoneUnderNegation F → CandidateFits π v n p F c → (i : ℕ) × (i < total v n') × CandidateFits π v n' p' F i
-candidate-more π v n n' p p' F c l lp w q =
+pub candidate_more : (π : Profile) (v n n' p p' : ℕ) (F : Form) (c : ℕ) → n ≤ n' → p ≤ p' → NoneUnderNegation F → CandidateFits π v n p F c → (i : ℕ) × (i < total v n') × CandidateFits π v n' p' F i
+candidate_more π v n n' p p' F c l lp w q =
     let s = stack_of v n c in
-    let h = heapOf n c in
-    let ks = stack-more v n n' s l (stackOf-stack v n c) in
-    let kh = heap-more n n' h l (heapOf-heap n c) in
-    (number_of v n' s h, number_lt v n' s h ks kh, rw (stack-of-number v n' s h ks kh, heap-of-number v n' s h ks kh) (fits_more π v F n n' p p' s h l lp w q))
+    let h = heap_of n c in
+    let ks = stack_more v n n' s l (stack_of_stack v n c) in
+    let kh = heap_more n n' h l (heap_of_heap n c) in
+    (number_of v n' s h, number_lt v n' s h ks kh, rw (stack_of_number v n' s h ks kh, heap_of_its_number v n' s h ks kh) (fits_more π v F n n' p p' s h l lp w q))
 
 -- the widened model has the same stack and the same heap
 module _ (v n n' : ℕ) (m : List ℕ) (long : length m ≡ v + n) (l : n ≤ n') where
-  old-byte : (i : ℕ) → i < v + n → get_or (widened n n' m) i 0 ≡ get_or m i 0
-  old-byte i q = get_or-append m (replicate (n' - n) 255) 0 i (omega arith)
+  old_byte : (i : ℕ) → i < v + n → get_or (widened n n' m) i 0 ≡ get_or m i 0
+  old_byte i q = get_or-append m (replicate (n' - n) 255) 0 i (omega arith)
 
-  new-byte : (i : ℕ) → n ≤ i → i < n' → get_or (widened n n' m) (v + i) 0 ≡ 255
-  new-byte i q u =
+  new_byte : (i : ℕ) → n ≤ i → i < n' → get_or (widened n n' m) (v + i) 0 ≡ 255
+  new_byte i q u =
       let e : v + i ≡ length m + (i - n) = omega arith in
       ap (λ (j : ℕ). get_or (widened n n' m) j 0) e
       ∙ get_or-append-add m (replicate (n' - n) 255) (i - n) 0
       ∙ get_or-replicate (n' - n) (i - n) 255 0 (omega arith)
 
-  widened-stack : stackIn v (widened n n' m) ≡ stackIn v m
-  unfolding stackIn
-  widened-stack = fun_ext λ x. go x
+  widened_stack : stack_in v (widened n n' m) ≡ stack_in v m
+  unfolding stack_in
+  widened_stack = fun_ext λ x. go x
     where
       at : (i : ℕ) → Dec (i < v) → pick (ltb i v) (get_or (widened n n' m) i 0) 0 ≡ pick (ltb i v) (get_or m i 0) 0
-      at i (yes q) = ap (λ (y : ℕ). pick (ltb i v) y 0) (old-byte i (omega arith))
+      at i (yes q) = ap (λ (y : ℕ). pick (ltb i v) y 0) (old_byte i (omega arith))
       at i (no q) = rw (le-ltb i v (omega arith))
 
-      go : (x : ℕ) → stackIn v (widened n n' m) x ≡ stackIn v m x
+      go : (x : ℕ) → stack_in v (widened n n' m) x ≡ stack_in v m x
       go zero = refl
       go (suc i) = at i (dec_lt i v)
 
-  widened-heap : heapIn v n' (widened n n' m) ≡ heapIn v n m
-  unfolding heapIn
-  widened-heap = fun_ext λ ℓ. go ℓ
+  widened_heap : heap_in v n' (widened n n' m) ≡ heap_in v n m
+  unfolding heap_in
+  widened_heap = fun_ext λ ℓ. go ℓ
     where
-      at : (i : ℕ) → Dec (i < n) → Dec (i < n') → pick (ltb i n') (digitOf (get_or (widened n n' m) (v + i) 0)) 0 ≡ pick (ltb i n) (digitOf (get_or m (v + i) 0)) 0
-      at i (yes q) u = rw (lt-ltb i n q, lt-ltb i n' (omega arith)) (ap digitOf (old-byte (v + i) (omega arith)))
-      at i (no q) (yes u) = rw (le-ltb i n (omega arith), lt-ltb i n' u) (ap digitOf (new-byte i (omega arith) u))
+      at : (i : ℕ) → Dec (i < n) → Dec (i < n') → pick (ltb i n') (digit_of (get_or (widened n n' m) (v + i) 0)) 0 ≡ pick (ltb i n) (digit_of (get_or m (v + i) 0)) 0
+      at i (yes q) u = rw (lt-ltb i n q, lt-ltb i n' (omega arith)) (ap digit_of (old_byte (v + i) (omega arith)))
+      at i (no q) (yes u) = rw (le-ltb i n (omega arith), lt-ltb i n' u) (ap digit_of (new_byte i (omega arith) u))
       at i (no q) (no u) = rw (le-ltb i n (omega arith), le-ltb i n' (omega arith))
 
-      go : (ℓ : ℕ) → heapIn v n' (widened n n' m) ℓ ≡ heapIn v n m ℓ
+      go : (ℓ : ℕ) → heap_in v n' (widened n n' m) ℓ ≡ heap_in v n m ℓ
       go zero = refl
       go (suc i) = at i (dec_lt i n) (dec_lt i n')
 
 -- ---- the same of books: found never becomes none
 
-module _ (π : Profile) (s t : List ℕ) (w : Wider s t) (c : NoneUnderNegation (bookFormula s)) where
+module _ (π : Profile) (s t : List ℕ) (w : Wider s t) (c : NoneUnderNegation (book_formula s)) where
   -- t is judged as s is, with its own n and p
-  pub judged-as : (S H : Map) → Fits π (varsOf s) (locs_of t) (pathOf t) (bookFormula s) S H → Fits π (varsOf t) (locs_of t) (pathOf t) (bookFormula t) S H
-  judged-as S H q =
-      subst (λ (f : List ℕ). Fits π (varsOf t) (locs_of t) (pathOf t) (tree f (root f)) S H) w.formula
-      (subst (λ (v : ℕ). Fits π v (locs_of t) (pathOf t) (bookFormula s) S H) w.vars q)
+  pub judged_as : (S H : Map) → Fits π (vars_of s) (locs_of t) (path_of t) (book_formula s) S H → Fits π (vars_of t) (locs_of t) (path_of t) (book_formula t) S H
+  judged_as S H q =
+      subst (λ (f : List ℕ). Fits π (vars_of t) (locs_of t) (path_of t) (tree f (root f)) S H) w.formula
+      (subst (λ (v : ℕ). Fits π v (locs_of t) (path_of t) (book_formula s) S H) w.vars q)
 
-  pub found-more : (k : ℕ) → FitsAt π s k → (i : ℕ) × (i < total_of t) × FitsAt π t i
-  found-more k q =
-      let r = candidate-more π (varsOf s) (locs_of s) (locs_of t) (pathOf s) (pathOf t) (bookFormula s) k w.locs w.path c q in (
+  pub found_more : (k : ℕ) → FitsAt π s k → (i : ℕ) × (i < total_of t) × FitsAt π t i
+  found_more k q =
+      let r = candidate_more π (vars_of s) (locs_of s) (locs_of t) (path_of s) (path_of t) (book_formula s) k w.locs w.path c q in (
         r.0,
         subst (λ (v : ℕ). r.0 < total v (locs_of t)) w.vars r.1,
-        judged-as (stack_of (varsOf t) (locs_of t) r.0) (heapOf (locs_of t) r.0)
-            (subst (λ (v : ℕ). Fits π (varsOf s) (locs_of t) (pathOf t) (bookFormula s) (stack_of v (locs_of t) r.0) (heapOf (locs_of t) r.0)) w.vars r.2),
+        judged_as (stack_of (vars_of t) (locs_of t) r.0) (heap_of (locs_of t) r.0)
+            (subst (λ (v : ℕ). Fits π (vars_of s) (locs_of t) (path_of t) (book_formula s) (stack_of v (locs_of t) r.0) (heap_of (locs_of t) r.0)) w.vars r.2),
       )
 
-  pub found-never-none : NeverNone π s t
-  found-never-none = never-none π s t (λ k _ q. found-more k q)
+  pub found_never_none : NeverNone π s t
+  found_never_none = never_none π s t (λ k _ q. found_more k q)
 
   -- and of a model's bytes
-  pub model-more : (m : List ℕ) → Passes (modelChecks (varsOf s) (locs_of s) m) → FitsBook π s m → FitsBook π t (widened (locs_of s) (locs_of t) m)
+  pub model_more : (m : List ℕ) → Passes (model_checks (vars_of s) (locs_of s) m) → FitsBook π s m → FitsBook π t (widened (locs_of s) (locs_of t) m)
   unfolding Passes
-  model-more m ok q =
-      judged-as (stackIn (varsOf t) (widened (locs_of s) (locs_of t) m)) (heapIn (varsOf t) (locs_of t) (widened (locs_of s) (locs_of t) m))
-      (subst (λ (v : ℕ). Fits π (varsOf s) (locs_of t) (pathOf t) (bookFormula s) (stackIn v (widened (locs_of s) (locs_of t) m)) (heapIn v (locs_of t) (widened (locs_of s) (locs_of t) m))) w.vars
-      (subst₂ (Fits π (varsOf s) (locs_of t) (pathOf t) (bookFormula s))
-      (sym (widened-stack (varsOf s) (locs_of s) (locs_of t) m ok.0 w.locs)) (sym (widened-heap (varsOf s) (locs_of s) (locs_of t) m ok.0 w.locs))
-      (fits_more π (varsOf s) (bookFormula s) (locs_of s) (locs_of t) (pathOf s) (pathOf t) (stackIn (varsOf s) m) (heapIn (varsOf s) (locs_of s) m) w.locs w.path c q)))
+  model_more m ok q =
+      judged_as (stack_in (vars_of t) (widened (locs_of s) (locs_of t) m)) (heap_in (vars_of t) (locs_of t) (widened (locs_of s) (locs_of t) m))
+      (subst (λ (v : ℕ). Fits π (vars_of s) (locs_of t) (path_of t) (book_formula s) (stack_in v (widened (locs_of s) (locs_of t) m)) (heap_in v (locs_of t) (widened (locs_of s) (locs_of t) m))) w.vars
+      (subst₂ (Fits π (vars_of s) (locs_of t) (path_of t) (book_formula s))
+      (sym (widened_stack (vars_of s) (locs_of s) (locs_of t) m ok.0 w.locs)) (sym (widened_heap (vars_of s) (locs_of s) (locs_of t) m ok.0 w.locs))
+      (fits_more π (vars_of s) (book_formula s) (locs_of s) (locs_of t) (path_of s) (path_of t) (stack_in (vars_of s) m) (heap_in (vars_of s) (locs_of s) m) w.locs w.path c q)))

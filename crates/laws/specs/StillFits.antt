@@ -4,55 +4,55 @@ use Rattle.std.proofs.Common.{sym, subst, ◌∙◌, ap, ap₂, append-nil, appe
 use Rattle.std.proofs.lemmas.List.{replicate-append-replicate}
 use Rattle.logic.specs.declared.Profile.{Profile}
 use Rattle.logic.specs.declared.Answer.{Answer}
-use Rattle.logic.specs.Numbers.{answer, yes-number}
+use Rattle.logic.specs.Numbers.{answer, yes_number}
 use Rattle.logic.specs.Checks.{Passes}
-use Rattle.logic.specs.CheckLaws.{answers-passed, passes_then}
+use Rattle.logic.specs.CheckLaws.{answers_passed, passes_then}
 use Rattle.logic.specs.Heap.{Map}
-use Rattle.logic.specs.Agree.{heap-more}
-use Rattle.logic.specs.Book.{bookFormula, varsOf, locs_of, bookChecks, Accepted}
-use Rattle.logic.specs.BookLaws.{book-zero}
-use Rattle.logic.specs.Model.{stackIn, heapIn, modelChecks, judgeChecks, FitsBook, Verdict, Judges}
-use Rattle.logic.specs.ModelLaws.{model-stack, model-heap, model-refuses, verdict-zero}
-use Rattle.logic.specs.Candidates.{bytesTo, byte_of, modelBytes}
-use Rattle.logic.specs.CandidateLaws.{model-in-range, model-of-model}
+use Rattle.logic.specs.Agree.{heap_more}
+use Rattle.logic.specs.Book.{book_formula, vars_of, locs_of, book_checks, Accepted}
+use Rattle.logic.specs.BookLaws.{book_zero}
+use Rattle.logic.specs.Model.{stack_in, heap_in, model_checks, judge_checks, FitsBook, Verdict, Judges}
+use Rattle.logic.specs.ModelLaws.{model_stack, model_heap_is, model_refuses, verdict_zero}
+use Rattle.logic.specs.Candidates.{bytes_to, byte_of, model_bytes}
+use Rattle.logic.specs.CandidateLaws.{model_in_range, model_of_model}
 use Rattle.laws.specs.Negations.{NoneUnderNegation}
 use Rattle.laws.specs.Wider.{Wider, widened}
-use Rattle.laws.specs.MoreLocations.{stack-more, model-more}
+use Rattle.laws.specs.MoreLocations.{stack_more, model_more}
 
 -- the bytes of k and j more, where these are all x
-bytes-more : (k j x : ℕ) (f : Map) → ((i : ℕ) → k ≤ i → f (suc i) ≡ x) → bytesTo (k + j) f ≡ bytesTo k f ++ replicate j x
-unfolding bytesTo
-bytes-more k zero x f h = rw add-zero (sym (append-nil (bytesTo k f)))
-bytes-more k (suc j) x f h =
+bytes_more : (k j x : ℕ) (f : Map) → ((i : ℕ) → k ≤ i → f (suc i) ≡ x) → bytes_to (k + j) f ≡ bytes_to k f ++ replicate j x
+unfolding bytes_to
+bytes_more k zero x f h = rw add-zero (sym (append-nil (bytes_to k f)))
+bytes_more k (suc j) x f h =
     let e : j + 1 ≡ suc j = omega arith in
     rw add-suc
-    (ap₂ (λ (r : List ℕ) (y : ℕ). r ++ (y ∷ [])) (bytes-more k j x f h) (h (k + j) (omega arith))
-    ∙ append_assoc (bytesTo k f) (replicate j x) (x ∷ [])
-    ∙ ap (λ (r : List ℕ). bytesTo k f ++ r) (replicate-append-replicate j 1 x ∙ ap (λ (i : ℕ). replicate i x) e))
+    (ap₂ (λ (r : List ℕ) (y : ℕ). r ++ (y ∷ [])) (bytes_more k j x f h) (h (k + j) (omega arith))
+    ∙ append_assoc (bytes_to k f) (replicate j x) (x ∷ [])
+    ∙ ap (λ (r : List ℕ). bytes_to k f ++ r) (replicate-append-replicate j 1 x ∙ ap (λ (i : ℕ). replicate i x) e))
 
-module _ (v n n' : ℕ) (m : List ℕ) (l : n ≤ n') (ok : Passes (modelChecks v n m)) where
+module _ (v n n' : ℕ) (m : List ℕ) (l : n ≤ n') (ok : Passes (model_checks v n m)) where
   -- the widened model is that of the same stack and the same heap
-  widened-bytes : modelBytes v n' (stackIn v m) (heapIn v n m) ≡ widened n n' m
-  widened-bytes =
-      let cells : Map = λ ℓ. byte_of (heapIn v n m ℓ) in
+  widened_bytes : model_bytes v n' (stack_in v m) (heap_in v n m) ≡ widened n n' m
+  widened_bytes =
+      let cells : Map = λ ℓ. byte_of (heap_in v n m ℓ) in
       let e : n' ≡ n + (n' - n) = omega arith in
-      ap (λ (r : List ℕ). bytesTo v (stackIn v m) ++ r) (ap (λ (k : ℕ). bytesTo k cells) e ∙ bytes-more n (n' - n) 255 cells unallocated)
-      ∙ sym (append_assoc (bytesTo v (stackIn v m)) (bytesTo n cells) (replicate (n' - n) 255))
-      ∙ ap (λ (r : List ℕ). r ++ replicate (n' - n) 255) (model-of-model v n m ok)
+      ap (λ (r : List ℕ). bytes_to v (stack_in v m) ++ r) (ap (λ (k : ℕ). bytes_to k cells) e ∙ bytes_more n (n' - n) 255 cells unallocated)
+      ∙ sym (append_assoc (bytes_to v (stack_in v m)) (bytes_to n cells) (replicate (n' - n) 255))
+      ∙ ap (λ (r : List ℕ). r ++ replicate (n' - n) 255) (model_of_model v n m ok)
     where
-      unallocated : (i : ℕ) → n ≤ i → byte_of (heapIn v n m (suc i)) ≡ 255
-      unallocated i q = rw (eq-eqb (heapIn v n m (suc i)) 0 ((model-heap v n m ok).past (suc i) (omega arith)))
+      unallocated : (i : ℕ) → n ≤ i → byte_of (heap_in v n m (suc i)) ≡ 255
+      unallocated i q = rw (eq-eqb (heap_in v n m (suc i)) 0 ((model_heap_is v n m ok).past (suc i) (omega arith)))
 
-  widened-in-range : Passes (modelChecks v n' (widened n n' m))
-  widened-in-range =
-      subst (λ (x : List ℕ). Passes (modelChecks v n' x)) widened-bytes
-      (model-in-range v n' (stackIn v m) (heapIn v n m) (stack-more v n n' (stackIn v m) l (model-stack v n m ok)) (heap-more n n' (heapIn v n m) l (model-heap v n m ok)))
+  widened_in_range : Passes (model_checks v n' (widened n n' m))
+  widened_in_range =
+      subst (λ (x : List ℕ). Passes (model_checks v n' x)) widened_bytes
+      (model_in_range v n' (stack_in v m) (heap_in v n m) (stack_more v n n' (stack_in v m) l (model_stack v n m ok)) (heap_more n n' (heap_in v n m) l (model_heap_is v n m ok)))
 
-pub still-fits : (π : Profile) (s t : List ℕ) → Wider s t → NoneUnderNegation (bookFormula s) → Accepted t → (m : List ℕ) (r : Answer) → Judges π s m r → r.number ≡ yes-number → Judges π t (widened (locs_of s) (locs_of t) m) (answer yes-number 0)
+pub still_fits : (π : Profile) (s t : List ℕ) → Wider s t → NoneUnderNegation (book_formula s) → Accepted t → (m : List ℕ) (r : Answer) → Judges π s m r → r.number ≡ yes_number → Judges π t (widened (locs_of s) (locs_of t) m) (answer yes_number 0)
 unfolding Judges Accepted
-still-fits π s t w c ok m r q e =
-    let k = book-zero s (modelChecks (varsOf s) (locs_of s) m) (Verdict (FitsBook π s m)) r (model-refuses (varsOf s) (locs_of s) m) q e in
+still_fits π s t w c ok m r q e =
+    let k = book_zero s (model_checks (vars_of s) (locs_of s) m) (Verdict (FitsBook π s m)) r (model_refuses (vars_of s) (locs_of s) m) q e in
     let m' = widened (locs_of s) (locs_of t) m in
-    let range = subst (λ (v : ℕ). Passes (modelChecks v (locs_of t) m')) w.vars (widened-in-range (varsOf s) (locs_of s) (locs_of t) m w.locs k.1.0) in
-    answers-passed (judgeChecks t m') (Verdict (FitsBook π t m')) (answer yes-number 0) (passes_then (bookChecks t) (modelChecks (varsOf t) (locs_of t) m') ok range)
-    (inl (model-more π s t w c m k.1.0 (verdict-zero (FitsBook π s m) r k.1.1 e), refl))
+    let range = subst (λ (v : ℕ). Passes (model_checks v (locs_of t) m')) w.vars (widened_in_range (vars_of s) (locs_of s) (locs_of t) m w.locs k.1.0) in
+    answers_passed (judge_checks t m') (Verdict (FitsBook π t m')) (answer yes_number 0) (passes_then (book_checks t) (model_checks (vars_of t) (locs_of t) m') ok range)
+    (inl (model_more π s t w c m k.1.0 (verdict_zero (FitsBook π s m) r k.1.1 e), refl))

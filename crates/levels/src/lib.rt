@@ -1,10 +1,10 @@
 // What a packed stack and a packed heap show of their blocks.
 ghost use Rattle.std.specs.Prelude.{◌≡◌, true, suc, ◌+◌, ◌*◌, ◌/◌, ◌^◌, ◌≤◌, ◌<◌, ltb};
-ghost use Rattle.skips.specs.Blocks.{outMost};
+ghost use Rattle.skips.specs.Blocks.{most_outgoing};
 ghost use Rattle.cells.specs.Cells.{most, cells};
 ghost use Rattle.skips.specs.Counts.{hit, incoming, above};
 ghost use Rattle.laws.specs.Exchange.{exchange};
-ghost use Rattle.laws.specs.Renumbering.{newDigit};
+ghost use Rattle.laws.specs.Renumbering.{renumbered_digit};
 ghost use Rattle.levels.specs.Levels.{Tops, Swapped, Worse, OutOfOrder};
 
 use cells::{cell, placed};
@@ -68,7 +68,7 @@ fn exchanged(a: u64, l: u64) -> u64
 // Digit d, where the values a and a + 1 are exchanged.
 fn new_digit(a: u64, d: u64) -> u64
     requires { (a < most) × (d < 256) }
-    ensures { (result ≡ newDigit (exchange a (suc a)) d) × (result < 256) }
+    ensures { (result ≡ renumbered_digit (exchange a (suc a)) d) × (result < 256) }
 {
     if d == 0 {
         return 0;
@@ -150,7 +150,7 @@ pub fn out_of_order_from(s: u64, v: u64) -> u64
 // The most that can stand at l where the cells above j are known.
 fn out_most(w: u64, j: u64, l: u64) -> u64
     requires { l ≤ most }
-    ensures { (result ≡ outMost j (cells w) l) × (result ≤ 1) }
+    ensures { (result ≡ most_outgoing j (cells w) l) × (result ≤ 1) }
 {
     if j < l {
         if cell(w, l) == 0 { 0 } else { 1 }
@@ -162,7 +162,7 @@ fn out_most(w: u64, j: u64, l: u64) -> u64
 // Whether more cells above j point to l than may.
 pub fn crowded(w: u64, j: u64, n: u64, l: u64, cap: u64) -> bool
     requires { (j ≤ n) × (n ≤ most) × (l ≤ most) × (cap ≤ 255) }
-    ensures { result ≡ ltb (outMost j (cells w) l + cap) (incoming n (above (suc j) (cells w)) l + 1) }
+    ensures { result ≡ ltb (most_outgoing j (cells w) l + cap) (incoming n (above (suc j) (cells w)) l + 1) }
 {
     out_most(w, j, l) + cap < pointing(w, j, n, l) + 1
 }

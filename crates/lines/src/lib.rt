@@ -3,15 +3,15 @@
 ghost use Rattle.std.specs.Prelude.{◌≡◌, ◌++◌, ◌+◌, ◌≤◌, length, drop};
 ghost use Rattle.logic.specs.Book.{most};
 ghost use Rattle.put.specs.Puts.{Puts, Room};
-ghost use Rattle.lines.specs.Printed.{firstLine, spaced, listed, line, Locations, printedValue, printedModel, printed};
+ghost use Rattle.lines.specs.Printed.{first_line, spaced, listed, line, Locations, printed_value, printed_model, printed};
 
 use leaves::long;
 use logic::Answer;
 use put::{put, put_decimal, put_number, put_word};
 
 fn put_answer(out: &mut [u8], a: Answer) -> usize
-    requires { Room 0 (firstLine a) out.old }
-    ensures { Puts 0 (firstLine a) out.old out.new result }
+    requires { Room 0 (first_line a) out.old }
+    ensures { Puts 0 (first_line a) out.old out.new result }
 {
     let after_number = put_number(out, 0, b"answer ", a.number);
     let after_place = put_number(out, after_number, b" place ", a.place);
@@ -21,8 +21,8 @@ fn put_answer(out: &mut [u8], a: Answer) -> usize
 
 // A location or a value, or '-' for a location that is not allocated.
 fn put_value(out: &mut [u8], at: usize, x: u8) -> usize
-    requires { Room at (printedValue x) out.old }
-    ensures { Puts at (printedValue x) out.old out.new result }
+    requires { Room at (printed_value x) out.old }
+    ensures { Puts at (printed_value x) out.old out.new result }
 {
     if x == 255 {
         return put(out, at, b'-');
@@ -31,16 +31,16 @@ fn put_value(out: &mut [u8], at: usize, x: u8) -> usize
 }
 
 fn put_cell(out: &mut [u8], at: usize, x: u8) -> usize
-    requires { Room at (spaced printedValue x) out.old }
-    ensures { Puts at (spaced printedValue x) out.old out.new result }
+    requires { Room at (spaced printed_value x) out.old }
+    ensures { Puts at (spaced printed_value x) out.old out.new result }
 {
     let after = put(out, at, b' ');
     put_value(out, after, x)
 }
 
 fn put_cells(out: &mut [u8], at: usize, cells: &[u8]) -> usize
-    requires { Room at (listed printedValue cells.now) out.old }
-    ensures { Puts at (listed printedValue cells.now) out.old out.new result }
+    requires { Room at (listed printed_value cells.now) out.old }
+    ensures { Puts at (listed printed_value cells.now) out.old out.new result }
 {
     let mut next = at;
     let mut i = 0;
@@ -52,8 +52,8 @@ fn put_cells(out: &mut [u8], at: usize, cells: &[u8]) -> usize
 }
 
 fn put_line(out: &mut [u8], at: usize, word: &[u8], cells: &[u8]) -> usize
-    requires { Room at (line word.now printedValue cells.now) out.old }
-    ensures { Puts at (line word.now printedValue cells.now) out.old out.new result }
+    requires { Room at (line word.now printed_value cells.now) out.old }
+    ensures { Puts at (line word.now printed_value cells.now) out.old out.new result }
 {
     let after = put_word(out, at, word);
     let end = put_cells(out, after, cells);
@@ -62,8 +62,8 @@ fn put_line(out: &mut [u8], at: usize, word: &[u8], cells: &[u8]) -> usize
 
 // The stack line and the heap line of a model over v variables and n locations.
 fn put_model(out: &mut [u8], at: usize, model: &[u8], v: usize, n: usize) -> usize
-    requires { (v + n ≤ length model.now) × Locations v model.now × Room at (printedModel v n model.now) out.old }
-    ensures { Puts at (printedModel v n model.now) out.old out.new result }
+    requires { (v + n ≤ length model.now) × Locations v model.now × Room at (printed_model v n model.now) out.old }
+    ensures { Puts at (printed_model v n model.now) out.old out.new result }
 {
     let end = v + n;
     let after = put_line(out, at, b"stack", &model[0..v]);

@@ -3,7 +3,7 @@
 use Rattle.std.specs.Prelude.{◌≡◌, List, [], ◌∷◌, ◌⊎◌, ℕ, zero, suc, ◌+◌, ◌-◌, ◌*◌, ◌/◌, ◌%◌, ◌<◌, ◌≤◌, length, get_or, take, drop}
 use Rattle.logic.specs.declared.Answer.{Answer}
 use Rattle.logic.specs.Formula.{Form}
-use Rattle.logic.specs.Numbers.{answer, yes-number, book-length, contents, bounds, formula-length, operator, operand, tree_shape, entry-kind, entry-stretch}
+use Rattle.logic.specs.Numbers.{answer, yes_number, book_length, contents, bounds, formula_length, operator, operand, tree_shape, entry_kind, entry_stretch}
 use Rattle.logic.specs.Checks.{Checks, done, check, ◌then◌, upto, Passes, Answers}
 use Rattle.logic.specs.Table.{OperatorOk, OperandsOk, Sound, Tree, uses, tree}
 
@@ -12,8 +12,8 @@ abbrev pub most : ℕ
 most = 8
 
 -- the most nodes that a formula has: "1 to 64 nodes"
-abbrev pub mostNodes : ℕ
-mostNodes = 64
+abbrev pub most_nodes : ℕ
+most_nodes = 64
 
 -- "two bytes, low first"
 abbrev pub word : List ℕ → ℕ → ℕ
@@ -38,8 +38,8 @@ LengthOk s = (11 ≤ length s) × (length s ≤ 206)
 -- byte 11, the second where the first ends, and the second ends with the book."
 pub record ContentsOk (s : List ℕ) : Type 0 where
   pub entries : get_or s 0 0 ≡ 2
-  pub bounds-kind : kind s 0 ≡ 1
-  pub formula-kind : kind s 1 ≡ 2
+  pub bounds_kind : kind s 0 ≡ 1
+  pub formula_kind : kind s 1 ≡ 2
   pub first : offset s 0 ≡ 11
   pub second : offset s 1 ≡ offset s 0 + size s 0
   pub ends : offset s 1 + size s 1 ≡ length s
@@ -81,14 +81,14 @@ pub record BoundsWithin (k : ℕ) (b : List ℕ) : Type 0 where
 abbrev pub BoundsOk : List ℕ → Type 0
 BoundsOk b = BoundsWithin most b
 
-abbrev pub varsOf : List ℕ → ℕ
-varsOf s = get_or (stretch s 0) 0 0
+abbrev pub vars_of : List ℕ → ℕ
+vars_of s = get_or (stretch s 0) 0 0
 
 abbrev pub locs_of : List ℕ → ℕ
 locs_of s = get_or (stretch s 0) 1 0
 
-abbrev pub pathOf : List ℕ → ℕ
-pathOf s = get_or (stretch s 0) 2 0
+abbrev pub path_of : List ℕ → ℕ
+path_of s = get_or (stretch s 0) 2 0
 
 -- "Formula: 1 to 64 nodes, three bytes each": "empty or not a multiple of 3" is refused, and a book has no room for more than
 -- 64 nodes
@@ -98,46 +98,46 @@ FormulaOk f = (0 < length f) × (length f % 3 ≡ 0)
 abbrev pub nodes : List ℕ → ℕ
 nodes f = length f / 3
 
-abbrev pub formulaOf : List ℕ → List ℕ
-formulaOf s = stretch s 1
+abbrev pub formula_of : List ℕ → List ℕ
+formula_of s = stretch s 1
 
 -- "The last node is the root."
 abbrev pub root : List ℕ → ℕ
 root f = nodes f - 1
 
 -- the formula of the book s
-abbrev pub bookFormula : List ℕ → Form
-bookFormula s = tree (formulaOf s) (root (formulaOf s))
+abbrev pub book_formula : List ℕ → Form
+book_formula s = tree (formula_of s) (root (formula_of s))
 
 -- "For 23 and 24 the place is the entry, 0 or 1. Refusals: 11, then entry by entry 23 before 24, all between 10 and 12."
-abbrev pub entryChecks : List ℕ → ℕ → Checks
-entryChecks s e = check (KindOk s e) entry-kind e (check (StretchOk s e) entry-stretch e done)
+abbrev pub entry_checks : List ℕ → ℕ → Checks
+entry_checks s e = check (KindOk s e) entry_kind e (check (StretchOk s e) entry_stretch e done)
 
 -- "Order: 10 to 13; then nodes upwards, 14 before 15 at each; 16", "lowest non-root node not used exactly once"
-abbrev pub contentsChecks : List ℕ → Checks
-contentsChecks s = check (LengthOk s) book-length 0 (check (CountOk s) contents 0 (entryChecks s 0 then entryChecks s 1))
+abbrev pub contents_checks : List ℕ → Checks
+contents_checks s = check (LengthOk s) book_length 0 (check (CountOk s) contents 0 (entry_checks s 0 then entry_checks s 1))
 
-abbrev pub bodyChecksWithin : ℕ → List ℕ → List ℕ → Checks
-bodyChecksWithin k b f = check (BoundsWithin k b) bounds 0 (check (FormulaOk f) formula-length 0 done)
+abbrev pub body_checks_within : ℕ → List ℕ → List ℕ → Checks
+body_checks_within k b f = check (BoundsWithin k b) bounds 0 (check (FormulaOk f) formula_length 0 done)
 
-abbrev pub bodyChecks : List ℕ → List ℕ → Checks
-bodyChecks b f = bodyChecksWithin most b f
+abbrev pub body_checks : List ℕ → List ℕ → Checks
+body_checks b f = body_checks_within most b f
 
-abbrev pub nodeChecks : ℕ → List ℕ → ℕ → Checks
-nodeChecks v f k = check (OperatorOk f k) operator k (check (OperandsOk v f k) operand k done)
+abbrev pub node_checks : ℕ → List ℕ → ℕ → Checks
+node_checks v f k = check (OperatorOk f k) operator k (check (OperandsOk v f k) operand k done)
 
-abbrev pub useChecks : List ℕ → ℕ → Checks
-useChecks f k = check (uses f (nodes f) k ≡ 1) tree_shape k done
+abbrev pub use_checks : List ℕ → ℕ → Checks
+use_checks f k = check (uses f (nodes f) k ≡ 1) tree_shape k done
 
-abbrev pub tableChecks : ℕ → List ℕ → Checks
-tableChecks v f = upto (nodeChecks v f) (nodes f) then upto (useChecks f) (root f)
+abbrev pub table_checks : ℕ → List ℕ → Checks
+table_checks v f = upto (node_checks v f) (nodes f) then upto (use_checks f) (root f)
 
-abbrev pub bookChecksWithin : ℕ → List ℕ → Checks
-bookChecksWithin k s =
-    contentsChecks s then (bodyChecksWithin k (stretch s 0) (formulaOf s) then tableChecks (varsOf s) (formulaOf s))
+abbrev pub book_checks_within : ℕ → List ℕ → Checks
+book_checks_within k s =
+    contents_checks s then (body_checks_within k (stretch s 0) (formula_of s) then table_checks (vars_of s) (formula_of s))
 
-abbrev pub bookChecks : List ℕ → Checks
-bookChecks s = bookChecksWithin most s
+abbrev pub book_checks : List ℕ → Checks
+book_checks s = book_checks_within most s
 
 -- the contents and the bounds of a book whose second body has that kind, so many bytes, and starts at byte 14
 abbrev pub head_of : ℕ → ℕ → ℕ → ℕ → ℕ → List ℕ
@@ -145,7 +145,7 @@ head_of kind v n p bytes = 2 ∷ 1 ∷ 11 ∷ 0 ∷ 3 ∷ 0 ∷ kind ∷ 14 ∷ 
 
 -- what `read` gives back for the book s: number 0, or the refusal of the first part that fails
 abbrev pub ReadsWithin : ℕ → List ℕ → Answer → Type 0
-ReadsWithin k s a = Answers (bookChecksWithin k s) (λ r. r ≡ answer yes-number 0) a
+ReadsWithin k s a = Answers (book_checks_within k s) (λ r. r ≡ answer yes_number 0) a
 
 unfoldable pub Reads : List ℕ → Answer → Type 0
 Reads s a = ReadsWithin most s a
@@ -153,12 +153,12 @@ Reads s a = ReadsWithin most s a
 -- what opening the book s gives: the reader's answer and, for an accepted book, its bounds
 pub record Opens (s : List ℕ) (a : Answer) (v n p : ℕ) : Type 0 where
   pub answer : Reads s a
-  pub bounds : a.number ≡ yes-number → (v ≡ varsOf s) × (n ≡ locs_of s) × (p ≡ pathOf s)
-  pub none : ¬ (a.number ≡ yes-number) → (v ≡ 0) × (n ≡ 0) × (p ≡ 0)
+  pub bounds : a.number ≡ yes_number → (v ≡ vars_of s) × (n ≡ locs_of s) × (p ≡ path_of s)
+  pub none : ¬ (a.number ≡ yes_number) → (v ≡ 0) × (n ≡ 0) × (p ≡ 0)
 
 -- the book is as document 01 says, in every part
 abbrev pub AcceptedWithin : ℕ → List ℕ → Type 0
-AcceptedWithin k s = Passes (bookChecksWithin k s)
+AcceptedWithin k s = Passes (book_checks_within k s)
 
 unfoldable pub Accepted : List ℕ → Type 0
 Accepted s = AcceptedWithin most s
@@ -171,16 +171,16 @@ LaidOut s = LengthOk s × ContentsOk s
 pub record Whole (s : List ℕ) : Type 0 where
   pub laid : LaidOut s
   pub bounds : BoundsOk (stretch s 0)
-  pub some : 0 < nodes (formulaOf s)
-  pub few : nodes (formulaOf s) ≤ mostNodes
-  pub bytes : length (formulaOf s) ≡ 3 * nodes (formulaOf s)
-  pub sound : Sound (varsOf s) (formulaOf s) (nodes (formulaOf s))
-  pub tree : Tree (formulaOf s) (nodes (formulaOf s))
+  pub some : 0 < nodes (formula_of s)
+  pub few : nodes (formula_of s) ≤ most_nodes
+  pub bytes : length (formula_of s) ≡ 3 * nodes (formula_of s)
+  pub sound : Sound (vars_of s) (formula_of s) (nodes (formula_of s))
+  pub tree : Tree (formula_of s) (nodes (formula_of s))
 
 -- the table f of v variables, as the reader accepts it
 pub record Known (v : ℕ) (f : List ℕ) : Type 0 where
   pub some : 0 < nodes f
-  pub few : nodes f ≤ mostNodes
+  pub few : nodes f ≤ most_nodes
   pub bytes : length f ≡ 3 * nodes f
   pub sound : Sound v f (nodes f)
   pub tree : Tree f (nodes f)
@@ -192,10 +192,10 @@ KnownTable f = (v : ℕ) × Known v f
 -- the accepted book s has the formula f and the bounds v, n and p
 pub record Bodies (s f : List ℕ) (v n p : ℕ) : Type 0 where
   pub accepted : Accepted s
-  pub vars : v ≡ varsOf s
+  pub vars : v ≡ vars_of s
   pub locs : n ≡ locs_of s
-  pub path : p ≡ pathOf s
-  pub formula : f ≡ formulaOf s
+  pub path : p ≡ path_of s
+  pub formula : f ≡ formula_of s
 
 -- what `body` hands back: "an empty one if the book is refused before 12, or for an entry other than 0 or 1"
 abbrev pub Given : List ℕ → ℕ → Type 0

@@ -6,182 +6,182 @@ use mathlib.Core.List.{List}
 use Rattle.logic.specs.declared.Answer.{Answer}
 use Rattle.logic.specs.Numbers.{answer}
 use Rattle.logic.specs.Checks.{Checks, ◌then◌, upto, Passes, Answers}
-use Rattle.logic.specs.CheckLaws.{Single, Yes, Refuses, answers-single, yes-single, answers-zero, passes-of-yes, fails-of-refused, answers-split, then-passes, passes_at, answers-refused, answers-after, refuses-then, refuses-upto}
+use Rattle.logic.specs.CheckLaws.{Single, Yes, Refuses, answers_single, yes_single, answers_zero, passes_of_yes, fails_of_refused, answers_split, then_passes, passes_at, answers_refused, answers_after, refuses_then, refuses_upto}
 use Rattle.logic.specs.Table.{Sound}
-use Rattle.logic.specs.Book.{mostNodes, offset, size, start_of, EndOk, stretch, LaidOut, Given, varsOf, formulaOf, nodes, root, contentsChecks, bodyChecks, nodeChecks, useChecks, tableChecks, bookChecks, Reads, Accepted, Whole, Body, Placed}
+use Rattle.logic.specs.Book.{most_nodes, offset, size, start_of, EndOk, stretch, LaidOut, Given, vars_of, formula_of, nodes, root, contents_checks, body_checks, node_checks, use_checks, table_checks, book_checks, Reads, Accepted, Whole, Body, Placed}
 
 -- two answers that the reader's statement allows are equal, and so are two bodies and two places
-pub reads-single : (s : List ℕ) → Single (Reads s)
+pub reads_single : (s : List ℕ) → Single (Reads s)
 unfolding Reads
-reads-single s = answers-single (bookChecks s) Yes yes-single
+reads_single s = answers_single (book_checks s) Yes yes_single
 
-pub body-single : (s : List ℕ) (e : ℕ) (a b : List ℕ) → Body s e a → Body s e b → a ≡ b
+pub body_single : (s : List ℕ) (e : ℕ) (a b : List ℕ) → Body s e a → Body s e b → a ≡ b
 unfolding Body
-body-single s e a b p q =
+body_single s e a b p q =
     ⊎_elim (λ x. ⊎_elim (λ y. x.1 ∙ sym y.1) (λ y. absurd (y.0 x.0)) q)
     (λ x. ⊎_elim (λ y. absurd (x.0 y.0)) (λ y. x.1 ∙ sym y.1) q) p
 
-pub placed-single : (s : List ℕ) (e a i b j : ℕ) → Placed s e a i → Placed s e b j → (a ≡ b) × (i ≡ j)
+pub placed_single : (s : List ℕ) (e a i b j : ℕ) → Placed s e a i → Placed s e b j → (a ≡ b) × (i ≡ j)
 unfolding Placed
-placed-single s e a i b j p q =
+placed_single s e a i b j p q =
     ⊎_elim (λ x. ⊎_elim (λ y. (x.1.0 ∙ sym y.1.0, x.1.1 ∙ sym y.1.1)) (λ y. absurd (y.0 x.0)) q)
     (λ x. ⊎_elim (λ y. absurd (x.0 y.0)) (λ y. (x.1.0 ∙ sym y.1.0, x.1.1 ∙ sym y.1.1)) q) p
 
-contents-refuses : (s : List ℕ) → Refuses (contentsChecks s)
+contents_refuses : (s : List ℕ) → Refuses (contents_checks s)
 unfolding Refuses ◌then◌
-contents-refuses s = (omega arith, (omega arith, (omega arith, (omega arith, (omega arith, (omega arith, tt))))))
+contents_refuses s = (omega arith, (omega arith, (omega arith, (omega arith, (omega arith, (omega arith, tt))))))
 
-pub body-refuses : (b f : List ℕ) → Refuses (bodyChecks b f)
+pub body_refuses : (b f : List ℕ) → Refuses (body_checks b f)
 unfolding Refuses
-body-refuses b f = (omega arith, (omega arith, tt))
+body_refuses b f = (omega arith, (omega arith, tt))
 
-pub node-refuses : (v : ℕ) (f : List ℕ) (k : ℕ) → Refuses (nodeChecks v f k)
+pub node_refuses : (v : ℕ) (f : List ℕ) (k : ℕ) → Refuses (node_checks v f k)
 unfolding Refuses
-node-refuses v f k = (omega arith, (omega arith, tt))
+node_refuses v f k = (omega arith, (omega arith, tt))
 
-pub use-refuses : (f : List ℕ) (k : ℕ) → Refuses (useChecks f k)
+pub use_refuses : (f : List ℕ) (k : ℕ) → Refuses (use_checks f k)
 unfolding Refuses
-use-refuses f k = (omega arith, tt)
+use_refuses f k = (omega arith, tt)
 
 -- the contents are as stated exactly if no part of them is refused
-pub laid-passes : (s : List ℕ) → LaidOut s → Passes (contentsChecks s)
+pub laid_passes : (s : List ℕ) → LaidOut s → Passes (contents_checks s)
 unfolding Passes ◌then◌ start_of EndOk
-laid-passes s g =
+laid_passes s g =
     let c = g.1 in
-    (g.0, (c.entries, (c.bounds-kind, ((c.first, omega (arith, c.second, c.ends)), (c.formula-kind, ((c.second, c.ends), tt))))))
+    (g.0, (c.entries, (c.bounds_kind, ((c.first, omega (arith, c.second, c.ends)), (c.formula_kind, ((c.second, c.ends), tt))))))
 
-pub passes-laid : (s : List ℕ) → Passes (contentsChecks s) → LaidOut s
+pub passes_laid : (s : List ℕ) → Passes (contents_checks s) → LaidOut s
 unfolding Passes ◌then◌ start_of EndOk
-passes-laid s p =
+passes_laid s p =
     let first = p.1.1 in
     let second = first.1.1 in (
       p.0,
-      record { entries = p.1.0; bounds-kind = first.0; formula-kind = second.0; first = first.1.0.0; second = second.1.0.0; ends = second.1.0.1 },
+      record { entries = p.1.0; bounds_kind = first.0; formula_kind = second.0; first = first.1.0.0; second = second.1.0.0; ends = second.1.0.1 },
     )
 
 -- number 0 of the contents, and any other
-pub laid_out : (s : List ℕ) (a : Answer) → Answers (contentsChecks s) Yes a → a.number ≡ 0 → LaidOut s
-laid_out s a q e = passes-laid s (passes-of-yes (contentsChecks s) a (contents-refuses s) q e)
+pub reads_laid_out : (s : List ℕ) (a : Answer) → Answers (contents_checks s) Yes a → a.number ≡ 0 → LaidOut s
+reads_laid_out s a q e = passes_laid s (passes_of_yes (contents_checks s) a (contents_refuses s) q e)
 
-pub not-laid-out : (s : List ℕ) (a : Answer) → Answers (contentsChecks s) Yes a → ¬ (a.number ≡ 0) → ¬ LaidOut s
-not-laid-out s a q f g = fails-of-refused (contentsChecks s) a q f (laid-passes s g)
+pub not_laid_out : (s : List ℕ) (a : Answer) → Answers (contents_checks s) Yes a → ¬ (a.number ≡ 0) → ¬ LaidOut s
+not_laid_out s a q f g = fails_of_refused (contents_checks s) a q f (laid_passes s g)
 
 -- the stretch lies in the book
-pub stretch-fits : (s : List ℕ) (e : ℕ) → Given s e → offset s e + size s e ≤ length s
-stretch-fits s e g = go e g.1
+pub stretch_fits : (s : List ℕ) (e : ℕ) → Given s e → offset s e + size s e ≤ length s
+stretch_fits s e g = go e g.1
   where
     go : (e : ℕ) → e ≤ 1 → offset s e + size s e ≤ length s
     go zero l = omega (arith, g.0.1.second, g.0.1.ends)
     go (suc zero) l = omega (arith, g.0.1.ends)
     go (suc (suc e)) l = absurd (omega arith)
 
-pub stretch-short : (s : List ℕ) (e : ℕ) → Given s e → offset s e + size s e ≤ 206
-stretch-short s e g = omega (arith, stretch-fits s e g, g.0.0.1)
+pub stretch_short : (s : List ℕ) (e : ℕ) → Given s e → offset s e + size s e ≤ 206
+stretch_short s e g = omega (arith, stretch_fits s e g, g.0.0.1)
 
-pub stretch-length : (s : List ℕ) (e : ℕ) → Given s e → length (stretch s e) ≡ size s e
-stretch-length s e g = let h = stretch-fits s e g in rw (length-take, length-drop) (omega arith)
+pub stretch_length : (s : List ℕ) (e : ℕ) → Given s e → length (stretch s e) ≡ size s e
+stretch_length s e g = let h = stretch_fits s e g in rw (length-take, length-drop) (omega arith)
 
 -- the stretch between two places of the book
-pub stretch-is : (s : List ℕ) (e start len end : ℕ) → start ≡ offset s e → len ≡ size s e → end ≡ start + len → take (end - start) (drop start s) ≡ stretch s e
-stretch-is s e start len end es el ee =
+pub stretch_is : (s : List ℕ) (e start len end : ℕ) → start ≡ offset s e → len ≡ size s e → end ≡ start + len → take (end - start) (drop start s) ≡ stretch s e
+stretch_is s e start len end es el ee =
     let n : end - start ≡ size s e = omega arith in
     ap₂ (λ (k i : ℕ). take k (drop i s)) n es
 
-pub body-given : (s : List ℕ) (e : ℕ) (r : List ℕ) → Body s e r → Given s e → r ≡ stretch s e
+pub body_given : (s : List ℕ) (e : ℕ) (r : List ℕ) → Body s e r → Given s e → r ≡ stretch s e
 unfolding Body
-body-given s e r q g = ⊎_elim (λ x. x.1) (λ x. absurd (x.0 g)) q
+body_given s e r q g = ⊎_elim (λ x. x.1) (λ x. absurd (x.0 g)) q
 
 -- a book has no room for more than 64 nodes
-pub formula-short : (s : List ℕ) → LaidOut s → length (stretch s 0) ≡ 3 → length (formulaOf s) ≤ 3 * mostNodes
-formula-short s g three =
-    let bounds : size s 0 ≡ 3 = sym (stretch-length s 0 (g, omega arith)) ∙ three in
-    omega (arith, stretch-length s 1 (g, omega arith), stretch-fits s 1 (g, omega arith), g.0.1, g.1.first, g.1.second)
+pub formula_short : (s : List ℕ) → LaidOut s → length (stretch s 0) ≡ 3 → length (formula_of s) ≤ 3 * most_nodes
+formula_short s g three =
+    let bounds : size s 0 ≡ 3 = sym (stretch_length s 0 (g, omega arith)) ∙ three in
+    omega (arith, stretch_length s 1 (g, omega arith), stretch_fits s 1 (g, omega arith), g.0.1, g.1.first, g.1.second)
 
 -- ---- an accepted book
 
-pub nodes-sound : (v : ℕ) (f : List ℕ) → Passes (upto (nodeChecks v f) (nodes f)) → Sound v f (nodes f)
+pub nodes_sound : (v : ℕ) (f : List ℕ) → Passes (upto (node_checks v f) (nodes f)) → Sound v f (nodes f)
 unfolding Passes
-nodes-sound v f p k l = let q = passes_at (nodeChecks v f) (nodes f) p k l in record { operator = q.0; operands = q.1.0 }
+nodes_sound v f p k l = let q = passes_at (node_checks v f) (nodes f) p k l in record { operator = q.0; operands = q.1.0 }
 
-book-refuses : (s : List ℕ) → Refuses (bookChecks s)
-book-refuses s =
-    refuses-then (contentsChecks s) (bodyChecks (stretch s 0) (formulaOf s) then tableChecks (varsOf s) (formulaOf s)) (contents-refuses s)
-    (refuses-then (bodyChecks (stretch s 0) (formulaOf s)) (tableChecks (varsOf s) (formulaOf s)) (body-refuses (stretch s 0) (formulaOf s))
-    (refuses-then (upto (nodeChecks (varsOf s) (formulaOf s)) (nodes (formulaOf s))) (upto (useChecks (formulaOf s)) (root (formulaOf s)))
-    (refuses-upto (nodeChecks (varsOf s) (formulaOf s)) (node-refuses (varsOf s) (formulaOf s)) (nodes (formulaOf s)))
-    (refuses-upto (useChecks (formulaOf s)) (use-refuses (formulaOf s)) (root (formulaOf s)))))
+book_refuses : (s : List ℕ) → Refuses (book_checks s)
+book_refuses s =
+    refuses_then (contents_checks s) (body_checks (stretch s 0) (formula_of s) then table_checks (vars_of s) (formula_of s)) (contents_refuses s)
+    (refuses_then (body_checks (stretch s 0) (formula_of s)) (table_checks (vars_of s) (formula_of s)) (body_refuses (stretch s 0) (formula_of s))
+    (refuses_then (upto (node_checks (vars_of s) (formula_of s)) (nodes (formula_of s))) (upto (use_checks (formula_of s)) (root (formula_of s)))
+    (refuses_upto (node_checks (vars_of s) (formula_of s)) (node_refuses (vars_of s) (formula_of s)) (nodes (formula_of s)))
+    (refuses_upto (use_checks (formula_of s)) (use_refuses (formula_of s)) (root (formula_of s)))))
 
 -- "number 0 exactly if all parts hold"
-pub reads-yes : (s : List ℕ) (a : Answer) → Reads s a → a.number ≡ 0 → Accepted s
+pub reads_yes : (s : List ℕ) (a : Answer) → Reads s a → a.number ≡ 0 → Accepted s
 unfolding Reads Accepted
-reads-yes s a q e = passes-of-yes (bookChecks s) a (book-refuses s) q e
+reads_yes s a q e = passes_of_yes (book_checks s) a (book_refuses s) q e
 
 -- number 0 where a book is read first: the book is accepted, and the rest passes
-pub book-zero : (s : List ℕ) (d : Checks) (R : Answer → Type 0) (a : Answer) → Refuses d → Answers (bookChecks s then d) R a → a.number ≡ 0 → Passes (bookChecks s) × (Passes d × R a)
+pub book_zero : (s : List ℕ) (d : Checks) (R : Answer → Type 0) (a : Answer) → Refuses d → Answers (book_checks s then d) R a → a.number ≡ 0 → Passes (book_checks s) × (Passes d × R a)
 unfolding Reads Accepted
-book-zero s d R a w q e =
-    ⊎_elim (λ x. absurd (x.1 (reads-yes s a x.0 e))) (λ x. (x.0, answers-zero d R a w x.1 e)) (answers-split (bookChecks s) d R a q)
+book_zero s d R a w q e =
+    ⊎_elim (λ x. absurd (x.1 (reads_yes s a x.0 e))) (λ x. (x.0, answers_zero d R a w x.1 e)) (answers_split (book_checks s) d R a q)
 
-pub reads-no : (s : List ℕ) (a : Answer) → Reads s a → ¬ (a.number ≡ 0) → ¬ Accepted s
+pub reads_no : (s : List ℕ) (a : Answer) → Reads s a → ¬ (a.number ≡ 0) → ¬ Accepted s
 unfolding Reads Accepted
-reads-no s a q f = fails-of-refused (bookChecks s) a q f
+reads_no s a q f = fails_of_refused (book_checks s) a q f
 
 module _ (s : List ℕ) (ok : Accepted s) where
-  parts : Passes (contentsChecks s) × (Passes (bodyChecks (stretch s 0) (formulaOf s)) × (Passes (upto (nodeChecks (varsOf s) (formulaOf s)) (nodes (formulaOf s))) × Passes (upto (useChecks (formulaOf s)) (root (formulaOf s)))))
+  parts : Passes (contents_checks s) × (Passes (body_checks (stretch s 0) (formula_of s)) × (Passes (upto (node_checks (vars_of s) (formula_of s)) (nodes (formula_of s))) × Passes (upto (use_checks (formula_of s)) (root (formula_of s)))))
   unfolding Accepted
   parts =
-      let a = then-passes (contentsChecks s) (bodyChecks (stretch s 0) (formulaOf s) then tableChecks (varsOf s) (formulaOf s)) ok in
-      let b = then-passes (bodyChecks (stretch s 0) (formulaOf s)) (tableChecks (varsOf s) (formulaOf s)) a.1 in
-      (a.0, (b.0, then-passes (upto (nodeChecks (varsOf s) (formulaOf s)) (nodes (formulaOf s))) (upto (useChecks (formulaOf s)) (root (formulaOf s))) b.1))
+      let a = then_passes (contents_checks s) (body_checks (stretch s 0) (formula_of s) then table_checks (vars_of s) (formula_of s)) ok in
+      let b = then_passes (body_checks (stretch s 0) (formula_of s)) (table_checks (vars_of s) (formula_of s)) a.1 in
+      (a.0, (b.0, then_passes (upto (node_checks (vars_of s) (formula_of s)) (nodes (formula_of s))) (upto (use_checks (formula_of s)) (root (formula_of s))) b.1))
 
-  pub accepted-whole : Whole s
+  pub accepted_whole : Whole s
   unfolding Passes
-  accepted-whole =
-      let laid' : LaidOut s = passes-laid s parts.0 in
+  accepted_whole =
+      let laid' : LaidOut s = passes_laid s parts.0 in
       let b = parts.1.0.0 in
       let f = parts.1.0.1.0 in
-      let fits = formula-short s laid' b.three in
+      let fits = formula_short s laid' b.three in
       record {
         laid = laid';
         bounds = b;
         some = omega (arith, f.0, f.1);
         few = omega (arith, fits);
         bytes = omega (arith, f.1);
-        sound = nodes-sound (varsOf s) (formulaOf s) parts.1.1.0;
-        tree = λ k l. (passes_at (useChecks (formulaOf s)) (root (formulaOf s)) parts.1.1.1 k (omega arith)).0;
+        sound = nodes_sound (vars_of s) (formula_of s) parts.1.1.0;
+        tree = λ k l. (passes_at (use_checks (formula_of s)) (root (formula_of s)) parts.1.1.1 k (omega arith)).0;
       }
 
 -- ---- the reader's answer, from the answers of its four steps
 
-pub reads-contents : (s : List ℕ) (a : Answer) → Answers (contentsChecks s) Yes a → ¬ (a.number ≡ 0) → Reads s a
+pub reads_contents : (s : List ℕ) (a : Answer) → Answers (contents_checks s) Yes a → ¬ (a.number ≡ 0) → Reads s a
 unfolding Reads
-reads-contents s a q f =
-    answers-refused (contentsChecks s) Yes (bodyChecks (stretch s 0) (formulaOf s) then tableChecks (varsOf s) (formulaOf s)) a q f
+reads_contents s a q f =
+    answers_refused (contents_checks s) Yes (body_checks (stretch s 0) (formula_of s) then table_checks (vars_of s) (formula_of s)) a q f
 
 -- b and f are the two bodies
-module _ (s b f : List ℕ) (g : LaidOut s) (eb : b ≡ stretch s 0) (ef : f ≡ formulaOf s) where
+module _ (s b f : List ℕ) (g : LaidOut s) (eb : b ≡ stretch s 0) (ef : f ≡ formula_of s) where
   -- what the bodies and the table answer is what the book answers
-  bodies-after : (a : Answer) → Answers (bodyChecks b f then tableChecks (get_or b 0 0) f) Yes a → Reads s a
+  bodies_after : (a : Answer) → Answers (body_checks b f then table_checks (get_or b 0 0) f) Yes a → Reads s a
   unfolding Reads
-  bodies-after a q =
-      answers-after (contentsChecks s) (bodyChecks (stretch s 0) (formulaOf s) then tableChecks (varsOf s) (formulaOf s)) Yes a (laid-passes s g)
-      (subst₂ (λ (x y : List ℕ). Answers (bodyChecks x y then tableChecks (get_or x 0 0) y) Yes a) eb ef q)
+  bodies_after a q =
+      answers_after (contents_checks s) (body_checks (stretch s 0) (formula_of s) then table_checks (vars_of s) (formula_of s)) Yes a (laid_passes s g)
+      (subst₂ (λ (x y : List ℕ). Answers (body_checks x y then table_checks (get_or x 0 0) y) Yes a) eb ef q)
 
-  pub reads-bodies : (a : Answer) → Answers (bodyChecks b f) Yes a → ¬ (a.number ≡ 0) → Reads s a
-  reads-bodies a q w = bodies-after a (answers-refused (bodyChecks b f) Yes (tableChecks (get_or b 0 0) f) a q w)
+  pub reads_bodies : (a : Answer) → Answers (body_checks b f) Yes a → ¬ (a.number ≡ 0) → Reads s a
+  reads_bodies a q w = bodies_after a (answers_refused (body_checks b f) Yes (table_checks (get_or b 0 0) f) a q w)
 
-  table-after : (a : Answer) → Passes (bodyChecks b f) → Answers (tableChecks (get_or b 0 0) f) Yes a → Reads s a
-  table-after a p q = bodies-after a (answers-after (bodyChecks b f) (tableChecks (get_or b 0 0) f) Yes a p q)
+  table_after : (a : Answer) → Passes (body_checks b f) → Answers (table_checks (get_or b 0 0) f) Yes a → Reads s a
+  table_after a p q = bodies_after a (answers_after (body_checks b f) (table_checks (get_or b 0 0) f) Yes a p q)
 
-  pub reads-nodes : (a : Answer) → Passes (bodyChecks b f) → Answers (upto (nodeChecks (get_or b 0 0) f) (nodes f)) Yes a → ¬ (a.number ≡ 0) → Reads s a
-  reads-nodes a p q w = table-after a p (answers-refused (upto (nodeChecks (get_or b 0 0) f) (nodes f)) Yes (upto (useChecks f) (root f)) a q w)
+  pub reads_nodes : (a : Answer) → Passes (body_checks b f) → Answers (upto (node_checks (get_or b 0 0) f) (nodes f)) Yes a → ¬ (a.number ≡ 0) → Reads s a
+  reads_nodes a p q w = table_after a p (answers_refused (upto (node_checks (get_or b 0 0) f) (nodes f)) Yes (upto (use_checks f) (root f)) a q w)
 
-  pub reads-uses : (a : Answer) → Passes (bodyChecks b f) → Passes (upto (nodeChecks (get_or b 0 0) f) (nodes f)) → Answers (upto (useChecks f) (root f)) Yes a → Reads s a
-  reads-uses a p k q = table-after a p (answers-after (upto (nodeChecks (get_or b 0 0) f) (nodes f)) (upto (useChecks f) (root f)) Yes a k q)
+  pub reads_uses : (a : Answer) → Passes (body_checks b f) → Passes (upto (node_checks (get_or b 0 0) f) (nodes f)) → Answers (upto (use_checks f) (root f)) Yes a → Reads s a
+  reads_uses a p k q = table_after a p (answers_after (upto (node_checks (get_or b 0 0) f) (nodes f)) (upto (use_checks f) (root f)) Yes a k q)
 
 -- number 0 of the bodies and of the nodes
-pub bodies-pass : (b f : List ℕ) (r : ℕ) → Answers (bodyChecks b f) Yes (answer r 0) → r ≡ 0 → Passes (bodyChecks b f)
-bodies-pass b f r q e = passes-of-yes (bodyChecks b f) (answer r 0) (body-refuses b f) q e
+pub bodies_pass : (b f : List ℕ) (r : ℕ) → Answers (body_checks b f) Yes (answer r 0) → r ≡ 0 → Passes (body_checks b f)
+bodies_pass b f r q e = passes_of_yes (body_checks b f) (answer r 0) (body_refuses b f) q e
 
-pub nodes-pass : (v : ℕ) (f : List ℕ) (a : Answer) → Answers (upto (nodeChecks v f) (nodes f)) Yes a → a.number ≡ 0 → Passes (upto (nodeChecks v f) (nodes f))
-nodes-pass v f a q e = passes-of-yes (upto (nodeChecks v f) (nodes f)) a (refuses-upto (nodeChecks v f) (node-refuses v f) (nodes f)) q e
+pub nodes_pass : (v : ℕ) (f : List ℕ) (a : Answer) → Answers (upto (node_checks v f) (nodes f)) Yes a → a.number ≡ 0 → Passes (upto (node_checks v f) (nodes f))
+nodes_pass v f a q e = passes_of_yes (upto (node_checks v f) (nodes f)) a (refuses_upto (node_checks v f) (node_refuses v f) (nodes f)) q e

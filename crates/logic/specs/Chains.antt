@@ -5,15 +5,15 @@ use Rattle.std.proofs.Math.Decide.{ℕ_discrete}
 use Rattle.logic.specs.Heap.{Map, Heap, Allocated, Value, Empty}
 use Rattle.logic.specs.Holds.{Chain, Segment}
 use Rattle.logic.specs.Tests.{andb, pickb, allocated, without, empty, chain}
-use Rattle.logic.specs.Reflect.{Is, is-iff, is_eq, is-and, same-of-not}
-use Rattle.logic.specs.Agree.{is-allocated, is-empty}
-use Rattle.logic.specs.Without.{without-there, without-some, without-heap}
+use Rattle.logic.specs.Reflect.{Is, is_iff, is_eq, is_and, same_of_not}
+use Rattle.logic.specs.Agree.{is_allocated, is_empty}
+use Rattle.logic.specs.Without.{without_there, without_some, without_heap}
 use Rattle.logic.specs.Paths.{Path}
-use Rattle.logic.specs.PathLaws.{path-le}
+use Rattle.logic.specs.PathLaws.{path_le}
 
 -- no link: an empty heap
-chain-none : (a b : ℕ) (h : Map) → a ≡ b → Empty h → Chain 0 a b h
-chain-none a b h e q =
+chain_none : (a b : ℕ) (h : Map) → a ≡ b → Empty h → Chain 0 a b h
+chain_none a b h e q =
     record {
       at = λ i. a;
       first = refl;
@@ -23,12 +23,12 @@ chain-none a b h e q =
       only = λ ℓ f. absurd (f (q ℓ));
     }
 
-chain-empty : (a b : ℕ) (h : Map) → Chain 0 a b h → (a ≡ b) × Empty h
-chain-empty a b h c = (sym c.first ∙ c.last, λ ℓ. same-of-not (h ℓ) 0 (λ f. absurd (not-suc-le-zero (c.only ℓ f).1)))
+chain_empty : (a b : ℕ) (h : Map) → Chain 0 a b h → (a ≡ b) × Empty h
+chain_empty a b h c = (sym c.first ∙ c.last, λ ℓ. same_of_not (h ℓ) 0 (λ f. absurd (not-suc-le-zero (c.only ℓ f).1)))
 
 -- a chain whose ends are the same has no link
-chain-loop : (k a b : ℕ) (h : Map) → a ≡ b → Chain (suc k) a b h → ⊥
-chain-loop k a b h e c = c.different 0 (suc k) (omega arith) (omega arith) (c.first ∙ e ∙ sym c.last)
+chain_loop : (k a b : ℕ) (h : Map) → a ≡ b → Chain (suc k) a b h → ⊥
+chain_loop k a b h e c = c.different 0 (suc k) (omega arith) (omega arith) (c.first ∙ e ∙ sym c.last)
 
 -- one location more in front
 shift : ℕ → Map → Map
@@ -41,14 +41,14 @@ chain_more k a b h ne z c =
     record { at = shift a c.at; first = refl; last = c.last; link = link'; different = different'; only = λ ℓ f. only' ℓ f (ℕ_discrete ℓ a) }
   where
     there : (i : ℕ) → i < k → ¬ (c.at i ≡ a)
-    there i l = without-some a h (c.at i) (λ e. let q = c.link i l in absurd (omega (arith, q, e)))
+    there i l = without_some a h (c.at i) (λ e. let q = c.link i l in absurd (omega (arith, q, e)))
 
-    suc-pred : (x : ℕ) → ¬ (x ≡ 0) → x ≡ suc (pred x)
-    suc-pred x f = omega arith
+    suc_pred : (x : ℕ) → ¬ (x ≡ 0) → x ≡ suc (pred x)
+    suc_pred x f = omega arith
 
     link' : (i : ℕ) → i < suc k → Value h (shift a c.at i) (shift a c.at (suc i))
-    link' zero l = suc-pred (h a) z ∙ ap suc (sym c.first)
-    link' (suc i) l = sym (without-there a h (c.at i) (there i (le_of_suc-le-suc l))) ∙ c.link i (le_of_suc-le-suc l)
+    link' zero l = suc_pred (h a) z ∙ ap suc (sym c.first)
+    link' (suc i) l = sym (without_there a h (c.at i) (there i (le_of_suc-le-suc l))) ∙ c.link i (le_of_suc-le-suc l)
 
     different' : (i j : ℕ) → i < j → j ≤ suc k → ¬ (shift a c.at i ≡ shift a c.at j)
     different' i zero l m e = absurd (not-suc-le-zero l)
@@ -58,11 +58,11 @@ chain_more k a b h ne z c =
 
     only' : (ℓ : ℕ) → Allocated h ℓ → Dec (ℓ ≡ a) → (i : ℕ) × (i < suc k) × (shift a c.at i ≡ ℓ)
     only' ℓ f (yes e) = (0, omega arith, sym e)
-    only' ℓ f (no e) = let q = c.only ℓ (λ y. f (sym (without-there a h ℓ e) ∙ y)) in (suc q.0, suc-le-suc q.1, q.2)
+    only' ℓ f (no e) = let q = c.only ℓ (λ y. f (sym (without_there a h ℓ e) ∙ y)) in (suc q.0, suc-le-suc q.1, q.2)
 
 -- one link less in front
-pub chain-less : (k a b : ℕ) (h : Map) → Chain (suc k) a b h → Allocated h a × Chain k (pred (h a)) b (without a h)
-chain-less k a b h c = (
+pub chain_less : (k a b : ℕ) (h : Map) → Chain (suc k) a b h → Allocated h a × Chain k (pred (h a)) b (without a h)
+chain_less k a b h c = (
   (λ e. let q = step in absurd (omega (arith, q, e))),
   record {
     at = λ i. c.at (suc i);
@@ -70,7 +70,7 @@ chain-less k a b h c = (
     last = c.last;
     link = link';
     different = λ i j l m. c.different (suc i) (suc j) (suc-le-suc l) (suc-le-suc m);
-    only = λ ℓ f. only' ℓ f (c.only ℓ (λ y. f (without-there a h ℓ (without-some a h ℓ f) ∙ y)));
+    only = λ ℓ f. only' ℓ f (c.only ℓ (λ y. f (without_there a h ℓ (without_some a h ℓ f) ∙ y)));
   },
 )
   where
@@ -79,55 +79,55 @@ chain-less k a b h c = (
 
     link' : (i : ℕ) → i < k → Value (without a h) (c.at (suc i)) (c.at (suc (suc i)))
     link' i l =
-        without-there a h (c.at (suc i)) (λ e. c.different 0 (suc i) (omega arith) (omega arith) (c.first ∙ sym e)) ∙ c.link (suc i) (omega arith)
+        without_there a h (c.at (suc i)) (λ e. c.different 0 (suc i) (omega arith) (omega arith) (c.first ∙ sym e)) ∙ c.link (suc i) (omega arith)
 
     only' : (ℓ : ℕ) → Allocated (without a h) ℓ → (i : ℕ) × (i < suc k) × (c.at i ≡ ℓ) → (i : ℕ) × (i < k) × (c.at (suc i) ≡ ℓ)
     only' ℓ f q = go q.0 q.1 q.2
       where
         go : (i : ℕ) → i < suc k → c.at i ≡ ℓ → (i : ℕ) × (i < k) × (c.at (suc i) ≡ ℓ)
-        go zero l e = absurd (without-some a h ℓ f (sym e ∙ c.first))
+        go zero l e = absurd (without_some a h ℓ f (sym e ∙ c.first))
         go (suc i) l e = (i, le_of_suc-le-suc l, e)
 
-pub is-chain : (n p a b : ℕ) (h : Map) → Heap n h → Is (chain n p a b h) ((k : ℕ) × (k ≤ p) × Chain k a b h)
+pub is_chain : (n p a b : ℕ) (h : Map) → Heap n h → Is (chain n p a b h) ((k : ℕ) × (k ≤ p) × Chain k a b h)
 unfolding chain
-is-chain n zero a b h g =
-    is-iff (is-and (eqb a b) (empty n h) (is_eq a b) (is-empty n h g))
-    (λ q. (0, zero-le, chain-none a b h q.0 q.1))
+is_chain n zero a b h g =
+    is_iff (is_and (eqb a b) (empty n h) (is_eq a b) (is_empty n h g))
+    (λ q. (0, zero-le, chain_none a b h q.0 q.1))
     (λ q. none q.0 q.1 q.2)
   where
     none : (k : ℕ) → k ≤ 0 → Chain k a b h → (a ≡ b) × Empty h
-    none zero l c = chain-empty a b h c
+    none zero l c = chain_empty a b h c
     none (suc k) l c = absurd (not-suc-le-zero l)
-is-chain n (suc p) a b h g = go (ℕ_discrete a b) (is-chain n p (pred (h a)) b (without a h) (without-heap n a h g))
+is_chain n (suc p) a b h g = go (ℕ_discrete a b) (is_chain n p (pred (h a)) b (without a h) (without_heap n a h g))
   where
     stop : (k : ℕ) → a ≡ b → Chain k a b h → Empty h
-    stop zero e c = (chain-empty a b h c).1
-    stop (suc k) e c = absurd (chain-loop k a b h e c)
+    stop zero e c = (chain_empty a b h c).1
+    stop (suc k) e c = absurd (chain_loop k a b h e c)
 
     back : (k : ℕ) → k ≤ suc p → Chain k a b h → ¬ (a ≡ b) → Allocated h a × ((j : ℕ) × (j ≤ p) × Chain j (pred (h a)) b (without a h))
-    back zero l c ne = absurd (ne (chain-empty a b h c).0)
-    back (suc k) l c ne = let q = chain-less k a b h c in (q.0, (k, le_of_suc-le-suc l, q.1))
+    back zero l c ne = absurd (ne (chain_empty a b h c).0)
+    back (suc k) l c ne = let q = chain_less k a b h c in (q.0, (k, le_of_suc-le-suc l, q.1))
 
     go : Dec (a ≡ b) → Is (chain n p (pred (h a)) b (without a h)) ((k : ℕ) × (k ≤ p) × Chain k (pred (h a)) b (without a h)) → Is (pickb (eqb a b) (empty n h) (andb (allocated h a) (chain n p (pred (h a)) b (without a h)))) ((k : ℕ) × (k ≤ suc p) × Chain k a b h)
     go (yes e) i =
         rw (eq-eqb a b e)
-        (is-iff (is-empty n h g) (λ q. (0, zero-le, chain-none a b h e q)) (λ q. stop q.0 e q.2))
+        (is_iff (is_empty n h g) (λ q. (0, zero-le, chain_none a b h e q)) (λ q. stop q.0 e q.2))
     go (no e) i =
         rw (ne_eqb a b e)
-        (is-iff (is-and (allocated h a) (chain n p (pred (h a)) b (without a h)) (is-allocated h a) i)
+        (is_iff (is_and (allocated h a) (chain n p (pred (h a)) b (without a h)) (is_allocated h a) i)
         (λ q. (suc q.1.0, suc-le-suc q.1.1, chain_more q.1.0 a b h e q.0 q.1.2))
         (λ q. back q.0 q.1 q.2 e))
 
-chain-path : (k a b : ℕ) (h : Map) → Chain k a b h → Path k h
-chain-path k a b h c = record { at = c.at; link = c.link; different = c.different }
+chain_path : (k a b : ℕ) (h : Map) → Chain k a b h → Path k h
+chain_path k a b h c = record { at = c.at; link = c.link; different = c.different }
 
 -- a chain has at most n links, so those of at most n are all; "x and y the same and h empty" is the chain of no link
-pub is-segment : (n a b : ℕ) (h : Map) → Heap n h → Is (chain n n a b h) (Segment a b h)
-is-segment n a b h g =
-    is-iff (is-chain n n a b h g)
+pub is_segment : (n a b : ℕ) (h : Map) → Heap n h → Is (chain n n a b h) (Segment a b h)
+is_segment n a b h g =
+    is_iff (is_chain n n a b h g)
     (λ q. split q.0 q.2)
-    (⊎_elim (λ q. (0, zero-le, chain-none a b h q.0 q.1)) (λ q. (q.0, path-le n q.0 h g (chain-path q.0 a b h q.2), q.2)))
+    (⊎_elim (λ q. (0, zero-le, chain_none a b h q.0 q.1)) (λ q. (q.0, path_le n q.0 h g (chain_path q.0 a b h q.2), q.2)))
   where
     split : (k : ℕ) → Chain k a b h → Segment a b h
-    split zero c = inl (chain-empty a b h c)
+    split zero c = inl (chain_empty a b h c)
     split (suc k) c = inr (suc k, omega arith, c)

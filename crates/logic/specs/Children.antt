@@ -5,8 +5,8 @@ use Rattle.std.proofs.Math.Path.{sym, ap}
 use Rattle.std.proofs.Common.{◌∙◌, arith}
 use Rattle.logic.specs.Tests.{pick}
 use Rattle.logic.specs.Table.{op_of, kind_of, Sound, Tree}
-use Rattle.logic.specs.Operators.{each-operator}
-use Rattle.logic.specs.Weight.{sum, sum-add, sum-mul, sum_one, sum-le, sum_same, kid, kids, children}
+use Rattle.logic.specs.Operators.{each_operator}
+use Rattle.logic.specs.Weight.{sum, sum_add, sum_mul, sum_one, sum_le, sum_same, kid, kids, children}
 
 abbrev pub none : ℕ → ℕ
 none o = pick (leb o 4) 1 0
@@ -24,7 +24,7 @@ record Arity (o : ℕ) : Type 0 where
 arity : (o : ℕ) → 1 ≤ o → o ≤ 10 → Arity o
 unfolding kind_of
 arity =
-    each-operator Arity
+    each_operator Arity
     (record { some = refl; kids = refl }) (record { some = refl; kids = refl }) (record { some = refl; kids = refl }) (record { some = refl; kids = refl })
     (record { some = refl; kids = refl }) (record { some = refl; kids = refl }) (record { some = refl; kids = refl }) (record { some = refl; kids = refl })
     (record { some = refl; kids = refl }) (record { some = refl; kids = refl })
@@ -42,19 +42,19 @@ module _ (v : ℕ) (f : List ℕ) (n : ℕ) (ok : Sound v f n) (t : Tree f n) (m
   pub twos : ℕ
   twos = sum n (λ k. two (op_of f k))
 
-  pub nodes-counted : leaves + ones + twos ≡ n
+  pub nodes_counted : leaves + ones + twos ≡ n
   unfolding leaves ones twos
-  nodes-counted =
-      ap (λ (x : ℕ). x + sum n (λ k. two (op_of f k))) (sym (sum-add n (λ k. none (op_of f k)) (λ k. one (op_of f k))))
-      ∙ sym (sum-add n (λ k. none (op_of f k) + one (op_of f k)) (λ k. two (op_of f k)))
+  nodes_counted =
+      ap (λ (x : ℕ). x + sum n (λ k. two (op_of f k))) (sym (sum_add n (λ k. none (op_of f k)) (λ k. one (op_of f k))))
+      ∙ sym (sum_add n (λ k. none (op_of f k) + one (op_of f k)) (λ k. two (op_of f k)))
       ∙ sum_same n (λ k. none (op_of f k) + one (op_of f k) + two (op_of f k)) (λ k. 1) (λ k l. (at k l).some)
       ∙ sum_one n
 
-  pub children-counted : ones + twos * 2 ≡ m
+  pub children_counted : ones + twos * 2 ≡ m
   unfolding ones twos
-  children-counted =
-      ap (λ (x : ℕ). sum n (λ k. one (op_of f k)) + x) (sym (sum-mul n 2 (λ k. two (op_of f k))))
-      ∙ sym (sum-add n (λ k. one (op_of f k)) (λ k. two (op_of f k) * 2))
+  children_counted =
+      ap (λ (x : ℕ). sum n (λ k. one (op_of f k)) + x) (sym (sum_mul n 2 (λ k. two (op_of f k))))
+      ∙ sym (sum_add n (λ k. one (op_of f k)) (λ k. two (op_of f k) * 2))
       ∙ sum_same n (λ k. one (op_of f k) + two (op_of f k) * 2) (kids f (λ j. 1)) (λ k l. sym (at k l).kids)
       ∙ children v f n ok t m e
 
@@ -63,10 +63,10 @@ module _ (v : ℕ) (f : List ℕ) (n : ℕ) (ok : Sound v f n) (t : Tree f n) (m
       → sum n w ≤ leaves * a + ones * b + twos * c
   unfolding leaves ones twos
   at_most w a b c h =
-      let less = sum-le n w (λ k. none (op_of f k) * a + one (op_of f k) * b + two (op_of f k) * c) h in
-      let add = sum-add n (λ k. none (op_of f k) * a + one (op_of f k) * b) (λ k. two (op_of f k) * c) in
-      let add' = sum-add n (λ k. none (op_of f k) * a) (λ k. one (op_of f k) * b) in
-      let x = sum-mul n a (λ k. none (op_of f k)) in
-      let y = sum-mul n b (λ k. one (op_of f k)) in
-      let z = sum-mul n c (λ k. two (op_of f k)) in
+      let less = sum_le n w (λ k. none (op_of f k) * a + one (op_of f k) * b + two (op_of f k) * c) h in
+      let add = sum_add n (λ k. none (op_of f k) * a + one (op_of f k) * b) (λ k. two (op_of f k) * c) in
+      let add' = sum_add n (λ k. none (op_of f k) * a) (λ k. one (op_of f k) * b) in
+      let x = sum_mul n a (λ k. none (op_of f k)) in
+      let y = sum_mul n b (λ k. one (op_of f k)) in
+      let z = sum_mul n c (λ k. two (op_of f k)) in
       omega (arith, less, add, add', x, y, z)

@@ -10,18 +10,18 @@ unfoldable pub num_of : ℕ → ℕ → (ℕ → ℕ) → ℕ
 num_of b zero d = 0
 num_of b (suc k) d = num_of b k (λ i. d (suc i)) * b + d 0
 
-pub numOf-lt : (b k : ℕ) (d : ℕ → ℕ) → ((i : ℕ) → d i < b) → num_of b k d < b ^ k
+pub num_of_lt : (b k : ℕ) (d : ℕ → ℕ) → ((i : ℕ) → d i < b) → num_of b k d < b ^ k
 unfolding num_of
-numOf-lt b zero d h = rw pow-zero (omega arith)
-numOf-lt b (suc k) d h = rw pow-suc (digits_lt (numOf-lt b k (λ i. d (suc i)) (λ i. h (suc i))) (h 0))
+num_of_lt b zero d h = rw pow-zero (omega arith)
+num_of_lt b (suc k) d h = rw pow-suc (digits_lt (num_of_lt b k (λ i. d (suc i)) (λ i. h (suc i))) (h 0))
 
-pub digit-num : (b k : ℕ) (d : ℕ → ℕ) → ((i : ℕ) → d i < b) → (i : ℕ) → i < k → digit b (num_of b k d) i ≡ d i
+pub digit_num : (b k : ℕ) (d : ℕ → ℕ) → ((i : ℕ) → d i < b) → (i : ℕ) → i < k → digit b (num_of b k d) i ≡ d i
 unfolding num_of digit
-digit-num b zero d h i l = absurd (not-suc-le-zero l)
-digit-num b (suc k) d h zero l = digits_mod (num_of b k (λ i. d (suc i))) (h 0)
-digit-num b (suc k) d h (suc i) l =
+digit_num b zero d h i l = absurd (not-suc-le-zero l)
+digit_num b (suc k) d h zero l = digits_mod (num_of b k (λ i. d (suc i))) (h 0)
+digit_num b (suc k) d h (suc i) l =
     ap (λ (q : ℕ). digit b q i) (digits_div (num_of b k (λ j. d (suc j))) (h 0))
-    ∙ digit-num b k (λ j. d (suc j)) (λ j. h (suc j)) i (le_of_suc-le-suc l)
+    ∙ digit_num b k (λ j. d (suc j)) (λ j. h (suc j)) i (le_of_suc-le-suc l)
 
 pub digit_lt : (b m i : ℕ) → 0 < b → digit b m i < b
 unfolding digit

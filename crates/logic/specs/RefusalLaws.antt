@@ -6,12 +6,12 @@ use Prim.Native.Nat.{ℕ, zero, suc, ◌<◌, ◌≤◌}
 use Rattle.std.proofs.Common.{arith}
 use Rattle.logic.specs.declared.Profile.{Profile}
 use Rattle.logic.specs.declared.Answer.{Answer}
-use Rattle.logic.specs.Numbers.{book-length}
+use Rattle.logic.specs.Numbers.{book_length}
 use Rattle.logic.specs.Checks.{Checks, done, check, ◌then◌, upto, Passes, Answers}
-use Rattle.logic.specs.CheckLaws.{then-passes}
-use Rattle.logic.specs.Book.{stretch, varsOf, locs_of, formulaOf, nodes, root, contentsChecks, bodyChecks, nodeChecks, useChecks, tableChecks, bookChecks, Accepted}
-use Rattle.logic.specs.Strays.{nameChecks}
-use Rattle.logic.specs.Search.{FitsAt, total_of, Outcome, roomChecks, searchRest, searchChecks, Searches}
+use Rattle.logic.specs.CheckLaws.{then_passes}
+use Rattle.logic.specs.Book.{stretch, vars_of, locs_of, formula_of, nodes, root, contents_checks, body_checks, node_checks, use_checks, table_checks, book_checks, Accepted}
+use Rattle.logic.specs.Strays.{name_checks}
+use Rattle.logic.specs.Search.{FitsAt, total_of, Outcome, room_checks, search_rest, search_checks, Searches}
 
 -- the refusals of c have numbers from k on
 unfoldable pub From : ℕ → Checks → Type 0
@@ -24,42 +24,42 @@ module _ (k : ℕ) where
   from_then done d p q = q
   from_then (check P m x c) d p q = (p.0, from_then c d p.1 q)
 
-  from-upto : (f : ℕ → Checks) → ((i : ℕ) → From k (f i)) → (n : ℕ) → From k (upto f n)
+  from_upto : (f : ℕ → Checks) → ((i : ℕ) → From k (f i)) → (n : ℕ) → From k (upto f n)
   unfolding From upto
-  from-upto f w zero = tt
-  from-upto f w (suc n) = from_then (upto f n) (f n) (from-upto f w n) (w n)
+  from_upto f w zero = tt
+  from_upto f w (suc n) = from_then (upto f n) (f n) (from_upto f w n) (w n)
 
-  pub answers-below : (c : Checks) (R : Answer → Type 0) (a : Answer) → From k c → Answers c R a → a.number < k → Passes c × R a
+  pub answers_below : (c : Checks) (R : Answer → Type 0) (a : Answer) → From k c → Answers c R a → a.number < k → Passes c × R a
   unfolding From Passes Answers
-  answers-below done R a w q l = (tt, q)
-  answers-below (check P m x c) R a w q l =
+  answers_below done R a w q l = (tt, q)
+  answers_below (check P m x c) R a w q l =
       ⊎_elim (λ y. let z : a.number ≡ m = ap (λ (r : Answer). r.number) y.1 in absurd (omega (arith, w.0)))
-      (λ y. let r = answers-below c R a w.1 y.1 l in ((y.0, r.0), r.1)) q
+      (λ y. let r = answers_below c R a w.1 y.1 l in ((y.0, r.0), r.1)) q
 
-book-from : (s : List ℕ) → From book-length (bookChecks s)
+book_from : (s : List ℕ) → From book_length (book_checks s)
 unfolding From ◌then◌
-book-from s =
-    from_then 10 (contentsChecks s) (bodyChecks (stretch s 0) (formulaOf s) then tableChecks (varsOf s) (formulaOf s)) (omega arith, (omega arith, (omega arith, (omega arith, (omega arith, (omega arith, tt))))))
-    (from_then 10 (bodyChecks (stretch s 0) (formulaOf s)) (tableChecks (varsOf s) (formulaOf s)) (omega arith, (omega arith, tt))
-    (from_then 10 (upto (nodeChecks (varsOf s) (formulaOf s)) (nodes (formulaOf s))) (upto (useChecks (formulaOf s)) (root (formulaOf s)))
-    (from-upto 10 (nodeChecks (varsOf s) (formulaOf s)) (λ i. (omega arith, (omega arith, tt))) (nodes (formulaOf s)))
-    (from-upto 10 (useChecks (formulaOf s)) (λ i. (omega arith, tt)) (root (formulaOf s)))))
+book_from s =
+    from_then 10 (contents_checks s) (body_checks (stretch s 0) (formula_of s) then table_checks (vars_of s) (formula_of s)) (omega arith, (omega arith, (omega arith, (omega arith, (omega arith, (omega arith, tt))))))
+    (from_then 10 (body_checks (stretch s 0) (formula_of s)) (table_checks (vars_of s) (formula_of s)) (omega arith, (omega arith, tt))
+    (from_then 10 (upto (node_checks (vars_of s) (formula_of s)) (nodes (formula_of s))) (upto (use_checks (formula_of s)) (root (formula_of s)))
+    (from_upto 10 (node_checks (vars_of s) (formula_of s)) (λ i. (omega arith, (omega arith, tt))) (nodes (formula_of s)))
+    (from_upto 10 (use_checks (formula_of s)) (λ i. (omega arith, tt)) (root (formula_of s)))))
 
-rest_from : (s o : List ℕ) → From book-length (searchRest s o)
+rest_from : (s o : List ℕ) → From book_length (search_rest s o)
 unfolding From
 rest_from s o =
-    from_then 10 (upto (nameChecks (formulaOf s)) (varsOf s)) (roomChecks s o)
-    (from-upto 10 (nameChecks (formulaOf s)) (λ i. (omega arith, tt)) (varsOf s)) (omega arith, tt)
+    from_then 10 (upto (name_checks (formula_of s)) (vars_of s)) (room_checks s o)
+    (from_upto 10 (name_checks (formula_of s)) (λ i. (omega arith, tt)) (vars_of s)) (omega arith, tt)
 
 -- what a search that is not refused says
 pub record Answered (π : Profile) (s : List ℕ) (b : ℕ) (o : List ℕ) (a : Answer) : Type 0 where
   pub accepted : Accepted s
-  pub rest : Passes (searchRest s o)
+  pub rest : Passes (search_rest s o)
   pub outcome : Outcome (FitsAt π s) (total_of s) b a
 
-pub searches-answered : (π : Profile) (s : List ℕ) (b : ℕ) (o : List ℕ) (a : Answer) (o' : List ℕ) → Searches π s b o a o' → a.number < book-length → Answered π s b o a
+pub searches_answered : (π : Profile) (s : List ℕ) (b : ℕ) (o : List ℕ) (a : Answer) (o' : List ℕ) → Searches π s b o a o' → a.number < book_length → Answered π s b o a
 unfolding Accepted
-searches-answered π s b o a o' q l =
-    let r = answers-below 10 (searchChecks s o) (Outcome (FitsAt π s) (total_of s) b) a (from_then 10 (bookChecks s) (searchRest s o) (book-from s) (rest_from s o)) q.answer l in
-    let p = then-passes (bookChecks s) (searchRest s o) r.0 in
+searches_answered π s b o a o' q l =
+    let r = answers_below 10 (search_checks s o) (Outcome (FitsAt π s) (total_of s) b) a (from_then 10 (book_checks s) (search_rest s o) (book_from s) (rest_from s o)) q.answer l in
+    let p = then_passes (book_checks s) (search_rest s o) r.0 in
     record { accepted = p.0; rest = p.1; outcome = r.1 }

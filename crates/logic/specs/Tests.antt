@@ -21,11 +21,11 @@ abbrev pub pick : Bool → ℕ → ℕ → ℕ
 pick true a b = a
 pick false a b = b
 
-unfoldable pub sameBytes : List ℕ → List ℕ → Bool
-sameBytes [] [] = true
-sameBytes [] (y ∷ ys) = false
-sameBytes (x ∷ xs) [] = false
-sameBytes (x ∷ xs) (y ∷ ys) = let r = sameBytes xs ys in andb (eqb x y) r
+unfoldable pub same_bytes : List ℕ → List ℕ → Bool
+same_bytes [] [] = true
+same_bytes [] (y ∷ ys) = false
+same_bytes (x ∷ xs) [] = false
+same_bytes (x ∷ xs) (y ∷ ys) = let r = same_bytes xs ys in andb (eqb x y) r
 
 -- the test passes at some number below k; it is tried upward, up to the first at which it passes
 unfoldable pub any : ℕ → (ℕ → Bool) → Bool
@@ -43,24 +43,24 @@ digit b m zero = m % b
 digit b m (suc i) = digit b (m / b) i
 
 -- "its number (bit ℓ−1 for location ℓ)": location ℓ is in part m. Nil is in no part
-unfoldable pub inPart : ℕ → ℕ → Bool
-inPart m zero = false
-inPart m (suc i) = eqb (digit 2 m i) 1
+unfoldable pub in_part : ℕ → ℕ → Bool
+in_part m zero = false
+in_part m (suc i) = eqb (digit 2 m i) 1
 
 -- "Digits in base n+2 for locations 1 to n, location 1 lowest": the heap of number c
-unfoldable pub heapOf : ℕ → ℕ → Map
-heapOf n c zero = 0
-heapOf n c (suc i) = pick (ltb i n) (digit (n + 2) c i) 0
+unfoldable pub heap_of : ℕ → ℕ → Map
+heap_of n c zero = 0
+heap_of n c (suc i) = pick (ltb i n) (digit (n + 2) c i) 0
 
 abbrev pub allocated : Map → ℕ → Bool
 allocated h ℓ = not (eqb (h ℓ) 0)
 
 -- h on part m, and on the rest
 unfoldable pub part : Map → ℕ → Map
-part h m ℓ = pick (inPart m ℓ) (h ℓ) 0
+part h m ℓ = pick (in_part m ℓ) (h ℓ) 0
 
 unfoldable pub rest : Map → ℕ → Map
-rest h m ℓ = pick (inPart m ℓ) 0 (h ℓ)
+rest h m ℓ = pick (in_part m ℓ) 0 (h ℓ)
 
 -- "g with h together"
 unfoldable pub union : Map → Map → Map
@@ -82,29 +82,29 @@ unfoldable pub is_value : ℕ → Map → ℕ → Bool
 is_value n h ℓ = any (suc n) (λ j. eqb (h j) (suc ℓ))
 
 -- ℓ is allocated or is some location's value
-unfoldable pub inLocs : ℕ → Map → ℕ → Bool
-inLocs n h ℓ = let r = is_value n h ℓ in orb (allocated h ℓ) r
+unfoldable pub in_locs : ℕ → Map → ℕ → Bool
+in_locs n h ℓ = let r = is_value n h ℓ in orb (allocated h ℓ) r
 
 -- every location of part m is allocated
 unfoldable pub within : ℕ → ℕ → Map → Bool
-within n m h = all (suc n) (λ ℓ. orb (not (inPart m ℓ)) (allocated h ℓ))
+within n m h = all (suc n) (λ ℓ. orb (not (in_part m ℓ)) (allocated h ℓ))
 
 -- two pieces may meet at ℓ
-abbrev pub mayMeet : Profile → ℕ → Map → ℕ → Bool
-mayMeet Strong v s ℓ = named v s ℓ
-mayMeet Ordinary v s ℓ = true
+abbrev pub may_meet : Profile → ℕ → Map → ℕ → Bool
+may_meet Strong v s ℓ = named v s ℓ
+may_meet Ordinary v s ℓ = true
 
 -- ℓ is not allocated in both, and the two may meet there if it is in both locs
-unfoldable pub apartAt : Profile → ℕ → ℕ → Map → Map → Map → ℕ → Bool
-apartAt π v n s g h ℓ =
-    let q = mayMeet π v s ℓ in
-    let r = orb (not (inLocs n h ℓ)) q in
-    let t = orb (not (inLocs n g ℓ)) r in
+unfoldable pub apart_at : Profile → ℕ → ℕ → Map → Map → Map → ℕ → Bool
+apart_at π v n s g h ℓ =
+    let q = may_meet π v s ℓ in
+    let r = orb (not (in_locs n h ℓ)) q in
+    let t = orb (not (in_locs n g ℓ)) r in
     andb (not (andb (allocated g ℓ) (allocated h ℓ))) t
 
 -- g and h are disjoint as the profile asks
 unfoldable pub apart : Profile → ℕ → ℕ → Map → Map → Map → Bool
-apart π v n s g h = all (suc n) (apartAt π v n s g h)
+apart π v n s g h = all (suc n) (apart_at π v n s g h)
 
 -- D is just a, and its value is b; nil is never allocated
 unfoldable pub points : ℕ → ℕ → ℕ → Map → Bool
@@ -126,26 +126,26 @@ stepped h a zero = a
 stepped h a (suc i) = pred (h (stepped h a i))
 
 -- k links from a, all locations on the way different
-unfoldable pub pathFrom : Map → ℕ → ℕ → Bool
-pathFrom h k a =
+unfoldable pub path_from : Map → ℕ → ℕ → Bool
+path_from h k a =
     let r = all (suc k) (λ j. all j (λ i. not (eqb (stepped h a i) (stepped h a j)))) in
     andb (all k (λ i. allocated h (stepped h a i))) r
 
 -- no simple path of more than p links: none of p + 1
 unfoldable pub short : ℕ → ℕ → Map → Bool
-short n p h = not (any (suc n) (pathFrom h (suc p)))
+short n p h = not (any (suc n) (path_from h (suc p)))
 
 -- part m of h, which passes A, and the rest, which passes B, are strongly disjoint
-unfoldable pub sepAt : Profile → ℕ → ℕ → Map → Map → (Map → Bool) → (Map → Bool) → ℕ → Bool
-sepAt π v n s h A B m =
+unfoldable pub sep_at : Profile → ℕ → ℕ → Map → Map → (Map → Bool) → (Map → Bool) → ℕ → Bool
+sep_at π v n s h A B m =
     let q = B (rest h m) in
     let r = andb (A (part h m)) q in
     let t = andb (apart π v n s (part h m) (rest h m)) r in
     andb (within n m h) t
 
 -- heap number c, which passes A, is strongly disjoint from h, and the two together pass B
-unfoldable pub septAt : Profile → ℕ → ℕ → Map → Map → (Map → Bool) → (Map → Bool) → ℕ → Bool
-septAt π v n s h A B c =
-    let q = B (union (heapOf n c) h) in
-    let r = andb (A (heapOf n c)) q in
-    andb (apart π v n s (heapOf n c) h) r
+unfoldable pub sept_at : Profile → ℕ → ℕ → Map → Map → (Map → Bool) → (Map → Bool) → ℕ → Bool
+sept_at π v n s h A B c =
+    let q = B (union (heap_of n c) h) in
+    let r = andb (A (heap_of n c)) q in
+    andb (apart π v n s (heap_of n c) h) r

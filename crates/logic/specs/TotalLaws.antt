@@ -6,19 +6,19 @@ use Rattle.logic.specs.Book.{most}
 use Rattle.logic.specs.Candidates.{total}
 
 -- "T is at most 4,304,672,100,000,000"
-abbrev pub mostTotal : ℕ
-mostTotal = 4304672100000000
+abbrev pub most_total : ℕ
+most_total = 4304672100000000
 
 -- more variables and more locations have no fewer candidates
-total-grows : (v v' n n' : ℕ) → v ≤ v' → n ≤ n' → total v n ≤ total v' n'
-total-grows v v' n n' l k =
+total_grows : (v v' n n' : ℕ) → v ≤ v' → n ≤ n' → total v n ≤ total v' n'
+total_grows v v' n n' l k =
     mul-le-mul
     (le_trans (pow-le-pow_left {n = n + 1} {m = n' + 1} (omega arith) v) (pow-le-pow_right {n = n' + 1} (omega arith) l))
     (le_trans (pow-le-pow_left {n = n + 2} {m = n' + 2} (omega arith) n) (pow-le-pow_right {n = n' + 2} (omega arith) k))
 
 -- as many there are at the highest bounds, and at no others more
-pub most-total : total most most ≡ mostTotal
-most-total = refl
+pub total_is_most : total most most ≡ most_total
+total_is_most = refl
 
-pub total-most : (v n : ℕ) → v ≤ most → n ≤ most → total v n ≤ mostTotal
-total-most v n l k = rw (← most-total) (total-grows v most n most l k)
+pub total_most : (v n : ℕ) → v ≤ most → n ≤ most → total v n ≤ most_total
+total_most v n l k = rw (← total_is_most) (total_grows v most n most l k)

@@ -2,16 +2,16 @@
 use Rattle.std.specs.Prelude.{Bool, List, ℕ, zero, suc, ◌+◌, ltb, leb}
 use Rattle.logic.specs.declared.Profile.{Profile}
 use Rattle.logic.specs.declared.Answer.{Answer}
-use Rattle.logic.specs.Numbers.{yes-number, no_number, spent-number}
-use Rattle.logic.specs.Tests.{pick, heapOf}
-use Rattle.logic.specs.Book.{bookFormula, varsOf, locs_of, pathOf}
+use Rattle.logic.specs.Numbers.{yes_number, no_number, spent_number}
+use Rattle.logic.specs.Tests.{pick, heap_of}
+use Rattle.logic.specs.Book.{book_formula, vars_of, locs_of, path_of}
 use Rattle.logic.specs.Computed.{fits}
 use Rattle.logic.specs.Candidates.{stack_of}
 use Rattle.logic.specs.Search.{searched}
 
 -- FitsAt, worked out
-unfoldable pub fitsAt : Profile → List ℕ → ℕ → Bool
-fitsAt π s c = fits π (varsOf s) (locs_of s) (pathOf s) (bookFormula s) (stack_of (varsOf s) (locs_of s) c) (heapOf (locs_of s) c)
+unfoldable pub fits_at : Profile → List ℕ → ℕ → Bool
+fits_at π s c = fits π (vars_of s) (locs_of s) (path_of s) (book_formula s) (stack_of (vars_of s) (locs_of s) c) (heap_of (locs_of s) c)
 
 -- the lowest number below t at which the test passes, or t
 unfoldable pub first : ℕ → (ℕ → Bool) → ℕ
@@ -22,7 +22,7 @@ first (suc t) f =
     pick (ltb k t) k r
 
 -- the answer, where k is the lowest of t candidates that fits, or t
-unfoldable pub outcomeOf : ℕ → ℕ → ℕ → Answer
-outcomeOf t b k =
-    searched (pick (ltb k t) (pick (ltb k b) yes-number spent-number) (pick (leb t b) no_number spent-number))
+unfoldable pub outcome_of : ℕ → ℕ → ℕ → Answer
+outcome_of t b k =
+    searched (pick (ltb k t) (pick (ltb k b) yes_number spent_number) (pick (leb t b) no_number spent_number))
     (pick (ltb k t) (pick (ltb k b) (k + 1) b) (pick (leb t b) t b))

@@ -3,7 +3,7 @@
 use Rattle.std.specs.Prelude.{Bool, not, ℕ, ◌+◌, ◌^◌, eqb}
 use Rattle.logic.specs.declared.Profile.{Profile}
 use Rattle.logic.specs.Heap.{Map}
-use Rattle.logic.specs.Tests.{andb, orb, any, empty, points, chain, sepAt, septAt}
+use Rattle.logic.specs.Tests.{andb, orb, any, empty, points, chain, sep_at, sept_at}
 use Rattle.logic.specs.Formula.{Form}
 use Rattle.logic.specs.Formula.Form.{same, diff, pts, ls, conj, disj, but, neg, sep, sept}
 
@@ -17,5 +17,5 @@ module _ (π : Profile) (v n : ℕ) where
   truth (disj a b) s h = let r = truth b s h in orb (truth a s h) r
   truth (but a b) s h = let r = not (truth b s h) in andb (truth a s h) r
   truth (neg a) s h = not (truth a s h)
-  truth (sep a b) s h = any (2 ^ n) (sepAt π v n s h (truth a s) (truth b s))
-  truth (sept a b) s h = any ((n + 2) ^ n) (septAt π v n s h (truth a s) (truth b s))
+  truth (sep a b) s h = any (2 ^ n) (sep_at π v n s h (truth a s) (truth b s))
+  truth (sept a b) s h = any ((n + 2) ^ n) (sept_at π v n s h (truth a s) (truth b s))

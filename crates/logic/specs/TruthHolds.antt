@@ -8,22 +8,22 @@ use Rattle.logic.specs.Formula.Form.{same, diff, pts, ls, conj, disj, but, neg, 
 use Rattle.logic.specs.Holds.{Holds}
 use Rattle.logic.specs.Tests.{empty}
 use Rattle.logic.specs.Truth.{truth}
-use Rattle.logic.specs.Reflect.{Is, is_eq, is-and, is-or, is-not}
-use Rattle.logic.specs.Agree.{is-empty, is-points, is-sep, is-sept}
-use Rattle.logic.specs.Chains.{is-segment}
+use Rattle.logic.specs.Reflect.{Is, is_eq, is_and, is_or, is_not}
+use Rattle.logic.specs.Agree.{is_empty, is_points, is_sep, is_sept}
+use Rattle.logic.specs.Chains.{is_segment}
 
 module _ (π : Profile) (v n : ℕ) (s : Map) (low : (x : ℕ) → s x ≤ n) where
-  pub truth-holds : (F : Form) (h : Map) → Heap n h → Is (truth π v n F s h) (Holds π v n F s h)
+  pub truth_holds : (F : Form) (h : Map) → Heap n h → Is (truth π v n F s h) (Holds π v n F s h)
   unfolding truth Holds
-  truth-holds (same x y) h k = is-and (eqb (s x) (s y)) (empty n h) (is_eq (s x) (s y)) (is-empty n h k)
-  truth-holds (diff x y) h k = is-and (not (eqb (s x) (s y))) (empty n h) (is-not (eqb (s x) (s y)) (is_eq (s x) (s y))) (is-empty n h k)
-  truth-holds (pts x y) h k = is-points n (s x) (s y) h (low x) k
-  truth-holds (ls x y) h k = is-segment n (s x) (s y) h k
-  truth-holds (conj a b) h k = is-and (truth π v n a s h) (truth π v n b s h) (truth-holds a h k) (truth-holds b h k)
-  truth-holds (disj a b) h k = is-or (truth π v n a s h) (truth π v n b s h) (truth-holds a h k) (truth-holds b h k)
-  truth-holds (but a b) h k = is-and (truth π v n a s h) (not (truth π v n b s h)) (truth-holds a h k) (is-not (truth π v n b s h) (truth-holds b h k))
-  truth-holds (neg a) h k = is-not (truth π v n a s h) (truth-holds a h k)
-  truth-holds (sep a b) h k =
-      is-sep π v n s (truth π v n a s) (truth π v n b s) (Holds π v n a s) (Holds π v n b s) (truth-holds a) (truth-holds b) h k
-  truth-holds (sept a b) h k =
-      is-sept π v n s (truth π v n a s) (truth π v n b s) (Holds π v n a s) (Holds π v n b s) (truth-holds a) (truth-holds b) h k
+  truth_holds (same x y) h k = is_and (eqb (s x) (s y)) (empty n h) (is_eq (s x) (s y)) (is_empty n h k)
+  truth_holds (diff x y) h k = is_and (not (eqb (s x) (s y))) (empty n h) (is_not (eqb (s x) (s y)) (is_eq (s x) (s y))) (is_empty n h k)
+  truth_holds (pts x y) h k = is_points n (s x) (s y) h (low x) k
+  truth_holds (ls x y) h k = is_segment n (s x) (s y) h k
+  truth_holds (conj a b) h k = is_and (truth π v n a s h) (truth π v n b s h) (truth_holds a h k) (truth_holds b h k)
+  truth_holds (disj a b) h k = is_or (truth π v n a s h) (truth π v n b s h) (truth_holds a h k) (truth_holds b h k)
+  truth_holds (but a b) h k = is_and (truth π v n a s h) (not (truth π v n b s h)) (truth_holds a h k) (is_not (truth π v n b s h) (truth_holds b h k))
+  truth_holds (neg a) h k = is_not (truth π v n a s h) (truth_holds a h k)
+  truth_holds (sep a b) h k =
+      is_sep π v n s (truth π v n a s) (truth π v n b s) (Holds π v n a s) (Holds π v n b s) (truth_holds a) (truth_holds b) h k
+  truth_holds (sept a b) h k =
+      is_sept π v n s (truth π v n a s) (truth π v n b s) (Holds π v n a s) (Holds π v n b s) (truth_holds a) (truth_holds b) h k

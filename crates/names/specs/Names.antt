@@ -5,9 +5,9 @@ use Rattle.logic.specs.Book.{most}
 use Rattle.grammar.specs.Phrase.{Term}
 use Rattle.grammar.specs.Machine.{Frame, Spot, arg, termed}
 use Rattle.grammar.specs.Places.{known, note}
-use Rattle.grammar.specs.Meaning.{noteTerm, position, number_of}
+use Rattle.grammar.specs.Meaning.{note_term, position, number_of}
 use Rattle.grammar.specs.Outcome.{outcome, refused}
-use Rattle.terms.specs.Letters.{lettersOf}
+use Rattle.terms.specs.Letters.{letters_of}
 use Rattle.terms.specs.Terms.{last_of}
 use Rattle.names.specs.declared.Taken.{Taken}
 
@@ -20,12 +20,12 @@ abbrev pub names : List ℕ → ℕ → Names
 names l k = record { letters = l; count = k }
 
 -- the first k of the names that the numbers hold
-abbrev pub namesIn : List ℕ → ℕ → List (List ℕ)
-namesIn l k = map lettersOf (take k l)
+abbrev pub names_in : List ℕ → ℕ → List (List ℕ)
+names_in l k = map letters_of (take k l)
 
 -- the names so far
 abbrev pub held : Names → List (List ℕ)
-held n = namesIn n.letters n.count
+held n = names_in n.letters n.count
 
 pub record Fine (n : Names) : Type 0 where
   pub long : length n.letters ≡ most
@@ -49,7 +49,7 @@ module _ (s : List ℕ) (last : Bool) (i : ℕ) (n : Names) where
     pub from : i < r.at
     pub inside : r.at ≤ length s
     pub fine : Fine m
-    pub noted : held m ≡ noteTerm (held n) term
+    pub noted : held m ≡ note_term (held n) term
     pub number : r.variable ≡ number_of (held m) term
     pub goes : (k : ℕ) (t : Spot) → last_of t ≡ last → (σ : List Frame)
         → outcome (held n) k (onward s (arg t σ) i) ≡ outcome (held m) k (onward s (termed term t σ) r.at)

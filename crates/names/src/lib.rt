@@ -1,7 +1,7 @@
 // Names: how they are numbered as they first appear, and a term with its number.
 ghost use Rattle.std.specs.Prelude.{◌≡◌, ◌≤◌, length};
 ghost use Rattle.grammar.specs.Meaning.{position};
-ghost use Rattle.terms.specs.Letters.{lettersOf};
+ghost use Rattle.terms.specs.Letters.{letters_of};
 ghost use Rattle.names.specs.Names.{names as names_of, held, Fine, NotedIs, OperandIs};
 
 use logic::MOST;
@@ -30,7 +30,7 @@ pub struct Taken {
 // Where w stands among the names, or how many they are.
 fn place_of(letters: &Letters, names: usize, w: u64) -> usize
     requires { Fine (names_of letters.now names) }
-    ensures { (result ≡ position (held (names_of letters.now names)) (lettersOf w)) × (result ≤ names) }
+    ensures { (result ≡ position (held (names_of letters.now names)) (letters_of w)) × (result ≤ names) }
 {
     let mut i: usize = 0;
     while i < names {
@@ -45,7 +45,7 @@ fn place_of(letters: &Letters, names: usize, w: u64) -> usize
 // The number of the name w, which is noted where it is new.
 fn numbered(letters: &mut Letters, names: usize, w: u64) -> Noted
     requires { Fine (names_of letters.old names) }
-    ensures { NotedIs (names_of letters.old names) (lettersOf w) result.variable (names_of letters.new result.names) }
+    ensures { NotedIs (names_of letters.old names) (letters_of w) result.variable (names_of letters.new result.names) }
 {
     let i = place_of(letters, names, w);
     if i < names {

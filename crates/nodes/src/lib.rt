@@ -2,7 +2,7 @@
 ghost use Rattle.std.specs.Prelude.{◌≡◌, ◌+◌, ◌*◌, ◌<◌, length};
 ghost use Rattle.logic.specs.Checks.{Answers, upto};
 ghost use Rattle.logic.specs.CheckLaws.{Yes};
-ghost use Rattle.logic.specs.Book.{nodeChecks, nodes as nodesIn};
+ghost use Rattle.logic.specs.Book.{node_checks, nodes as nodes_in};
 ghost use Rattle.operands.specs.Kinds.{rows};
 
 use leaves::answer_of;
@@ -11,7 +11,7 @@ use operands::{Kinds, operands};
 
 fn node(kinds: &Kinds, f: &[u8], v: u8, k: usize) -> Answer
     requires { (kinds.now ≡ rows) × (3 * k + 2 < length f.now) }
-    ensures { Answers (nodeChecks v f.now k) Yes result }
+    ensures { Answers (node_checks v f.now k) Yes result }
 {
     let op = f[3 * k];
     match op {
@@ -27,7 +27,7 @@ fn node(kinds: &Kinds, f: &[u8], v: u8, k: usize) -> Answer
 
 // The nodes upwards. The table is laid out once, and not anew at each node.
 pub fn nodes(f: &[u8], v: u8) -> Answer
-    ensures { Answers (upto (nodeChecks v f.now) (nodesIn f.now)) Yes result }
+    ensures { Answers (upto (node_checks v f.now) (nodes_in f.now)) Yes result }
 {
     let kinds = operands::KINDS;
     let n = f.len() / 3;

@@ -2,7 +2,7 @@
 use Rattle.std.specs.Prelude.{◌≡◌, refl, Bool, true, List, [], ℕ, ◌+◌, ◌<◌, eqb, get_or, length}
 use Rattle.std.proofs.Common.{arith, eqb-true}
 use Rattle.logic.specs.Tests.{andb}
-use Rattle.logic.specs.Reflect.{is-and, is_eq, is-self}
+use Rattle.logic.specs.Reflect.{is_and, is_eq, is_self}
 use Rattle.logic.specs.Entries.{every, entry_of}
 use Rattle.logic.specs.Table.{kind_of}
 use Rattle.operands.specs.Kinds.{rows}
@@ -22,10 +22,10 @@ row_is : (i : ℕ) → i < 10 → (length (get_or rows i []) ≡ 2) × (every (c
 unfolding right
 row_is i h =
     let row = get_or rows i [] in
-    (is-and (eqb (length row) 2) (every (cell (i + 1)) 0 row) (is_eq (length row) 2) (is-self (every (cell (i + 1)) 0 row))).to (entry_of [] right rows all_right i h)
+    (is_and (eqb (length row) 2) (every (cell (i + 1)) 0 row) (is_eq (length row) 2) (is_self (every (cell (i + 1)) 0 row))).to (entry_of [] right rows all_right i h)
 
-pub row-right : (i j : ℕ) → i < 10 → j < 2 → get_or (get_or rows i []) j 0 ≡ kind_of (i + 1) j
+pub row_right : (i j : ℕ) → i < 10 → j < 2 → get_or (get_or rows i []) j 0 ≡ kind_of (i + 1) j
 unfolding cell
-row-right i j h l =
+row_right i j h l =
     let row = get_or rows i [] in
     eqb-true (get_or row j 0) (kind_of (i + 1) j) (entry_of 0 (cell (i + 1)) row (row_is i h).1 j (omega (arith, (row_is i h).0)))

@@ -4,15 +4,15 @@ use Rattle.logic.specs.declared.Profile.{Profile}
 use Rattle.logic.specs.Formula.{Form}
 use Rattle.rows.specs.declared.Next.{Next}
 use Rattle.rows.specs.Row.{bytes_of}
-use Rattle.rows.specs.Table.{arraysIn, setsIn, rowsIn, rows_of}
+use Rattle.rows.specs.Table.{arrays_in, sets_in, rows_in, rows_of}
 use Rattle.rowbytes.specs.Written.{Puts, Space}
 
 -- room for the rows of a formula
 pub record Room (π : Profile) (n : ℕ) (F : Form) (s : Next) (o : List ℕ) : Type 0 where
-  pub space : Space s (rowsIn π n F) o
-  pub array : s.array + arraysIn F < 65536
-  pub set : s.set + setsIn F < 65536
+  pub space : Space s (rows_in π n F) o
+  pub array : s.array + arrays_in F < 65536
+  pub set : s.set + sets_in F < 65536
 
 -- the rows of F over array A and set S were added
 abbrev pub Encoded : Profile → ℕ → Form → ℕ → ℕ → Next → Next → List ℕ → List ℕ → Type 0
-Encoded π n F A S s t o now = Puts s (rowsIn π n F) (arraysIn F) (setsIn F) (bytes_of (rows_of π n F A S s)) t o now
+Encoded π n F A S s t o now = Puts s (rows_in π n F) (arrays_in F) (sets_in F) (bytes_of (rows_of π n F A S s)) t o now

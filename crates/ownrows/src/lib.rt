@@ -1,10 +1,10 @@
 // The own rows of each operator: an atom's, those of operator 7, and those of operators 9 and 10; and the last two rows.
 ghost use Rattle.std.specs.Prelude.{◌≡◌, [], ◌∷◌, ◌+◌, ◌-◌, ◌≤◌, ◌<◌};
 ghost use Rattle.logic.specs.declared.Profile.TheVariants.{Strong};
-ghost use Rattle.logic.specs.Table.{atomOf};
+ghost use Rattle.logic.specs.Table.{atom_of};
 ghost use Rattle.rows.specs.Row.{fields_of, bytes_of};
 ghost use Rattle.rows.specs.Row.Row.{AND, NOT, CHAIN, APART, LONG};
-ghost use Rattle.rows.specs.Table.{also, alsoApart, apartRows, sepRows, septRows, chains as chainsTo, ors as orsTo};
+ghost use Rattle.rows.specs.Table.{also, also_apart, apart_row_count, sep_rows, sept_rows, chains as chains_to, ors as ors_to};
 ghost use Rattle.rowbytes.specs.Written.{Puts, Space};
 ghost use Rattle.ownrows.specs.Encoded.{Room, Encoded};
 
@@ -29,7 +29,7 @@ fn chain(a: u16, s: u16, x: u16, y: u16, k: u8) -> Fields
 // Writes CHAIN 0 to n.
 fn put_chains(out: &mut [u8], st: Next, a: u16, s: u16, x: u16, y: u16, n: u8) -> Next
     requires { (n < 255) × Space st (n + 1) out.old }
-    ensures { Puts st (n + 1) 0 0 (bytes_of (chainsTo a s x y (n + 1))) result out.old out.new }
+    ensures { Puts st (n + 1) 0 0 (bytes_of (chains_to a s x y (n + 1))) result out.old out.new }
 {
     let end = n + 1;
     let mut t = st;
@@ -44,7 +44,7 @@ fn put_chains(out: &mut [u8], st: Next, a: u16, s: u16, x: u16, y: u16, n: u8) -
 // Writes the n ORs behind the chains, which begin at row r.
 fn put_ors(out: &mut [u8], st: Next, r: u16, n: u8) -> Next
     requires { (r + n < st.row) × Space st n out.old }
-    ensures { Puts st n 0 0 (bytes_of (orsTo r st.row n)) result out.old out.new }
+    ensures { Puts st n 0 0 (bytes_of (ors_to r st.row n)) result out.old out.new }
 {
     let mut t = st;
     let mut last = r;
@@ -60,8 +60,8 @@ fn put_ors(out: &mut [u8], st: Next, r: u16, n: u8) -> Next
 
 // Writes the rows of an atom over array a and set s.
 pub fn put_atom(out: &mut [u8], op: u8, x: u16, y: u16, n: u8, a: u16, s: u16, st: Next) -> Next
-    requires { (1 ≤ op) × (op ≤ 4) × (n < 255) × Room Strong n (atomOf op x y) st out.old }
-    ensures { Encoded Strong n (atomOf op x y) a s st result out.old out.new }
+    requires { (1 ≤ op) × (op ≤ 4) × (n < 255) × Room Strong n (atom_of op x y) st out.old }
+    ensures { Encoded Strong n (atom_of op x y) a s st result out.old out.new }
 {
     match op {
         1 => put_pair(out, st, plain(1, x, y, 0), plain(3, s, 0, 0)),
@@ -85,8 +85,8 @@ pub fn put_but(out: &mut [u8], st: Next, l: u16) -> Next
 
 // Writes APART over array a and the sets i and j, and its AND, where the profile asks for them.
 fn put_apart(out: &mut [u8], profile: Profile, st: Next, a: u16, i: u16, j: u16) -> Next
-    requires { (0 < st.row) × Space st (apartRows profile) out.old }
-    ensures { Puts st (apartRows profile) 0 0 (bytes_of (alsoApart profile (st.row - 1) (APART a i j))) result out.old out.new }
+    requires { (0 < st.row) × Space st (apart_row_count profile) out.old }
+    ensures { Puts st (apart_row_count profile) 0 0 (bytes_of (also_apart profile (st.row - 1) (APART a i j))) result out.old out.new }
 {
     match profile {
         Profile::Strong => put_also(out, st, plain(11, a, i, j)),
@@ -96,8 +96,8 @@ fn put_apart(out: &mut [u8], profile: Profile, st: Next, a: u16, i: u16, j: u16)
 
 // Writes the own rows of operator 9, whose new sets are i and i + 1.
 pub fn put_sep(out: &mut [u8], profile: Profile, st: Next, l: u16, a: u16, s: u16, i: u16) -> Next
-    requires { (0 < l) × (0 < st.row) × (i + 1 < 65536) × Space st (3 + apartRows profile) out.old }
-    ensures { Puts st (3 + apartRows profile) 0 0 (bytes_of (sepRows profile a s i (i + 1) l st.row)) result out.old out.new }
+    requires { (0 < l) × (0 < st.row) × (i + 1 < 65536) × Space st (3 + apart_row_count profile) out.old }
+    ensures { Puts st (3 + apart_row_count profile) 0 0 (bytes_of (sep_rows profile a s i (i + 1) l st.row)) result out.old out.new }
 {
     let t = put_and(out, st, l - 1, st.row - 1);
     let u = put_also(out, t, plain(10, s, i, i + 1));
@@ -115,8 +115,8 @@ pub fn put_sept(
     s: u16,
     i: u16,
 ) -> Next
-    requires { (0 < l) × (0 < st.row) × (i + 1 < 65536) × Space st (5 + apartRows profile) out.old }
-    ensures { Puts st (5 + apartRows profile) 0 0 (bytes_of (septRows profile a b s i (i + 1) l st.row)) result out.old out.new }
+    requires { (0 < l) × (0 < st.row) × (i + 1 < 65536) × Space st (5 + apart_row_count profile) out.old }
+    ensures { Puts st (5 + apart_row_count profile) 0 0 (bytes_of (sept_rows profile a b s i (i + 1) l st.row)) result out.old out.new }
 {
     let t = put_and(out, st, l - 1, st.row - 1);
     let u = put_also(out, t, plain(10, i + 1, i, s));

@@ -4,11 +4,11 @@ use Rattle.std.specs.Prelude.{List, [], ◌∷◌, ◌++◌, ℕ, ◌+◌, leb, 
 use Rattle.logic.specs.Tests.{pick}
 use Rattle.logic.specs.Formula.{Form}
 use Rattle.grammar.specs.Phrase.{bytes}
-use Rattle.writing.specs.Writing.{variable, phraseOf, termText, write}
+use Rattle.writing.specs.Writing.{variable, phrase_of, term_text, write}
 
 -- a formula's text
 abbrev pub text : Form → List ℕ
-text F = write (phraseOf F)
+text F = write (phrase_of F)
 
 -- in the order of the operators, from 0, which is none
 unfoldable pub before : ℕ → List ℕ
@@ -25,17 +25,17 @@ behind o = get_or ([] ∷ bytes ") sep.emp)" ∷ bytes ") sep.emp)" ∷ bytes ")
 abbrev pub around : ℕ → List ℕ → List ℕ → List ℕ
 around o x y = before o ++ x ++ between o ++ y ++ behind o
 
-abbrev pub aroundOne : ℕ → List ℕ → List ℕ
-aroundOne o x = before o ++ x ++ behind o
+abbrev pub around_one : ℕ → List ℕ → List ℕ
+around_one o x = before o ++ x ++ behind o
 
 -- a variable, as an operand
 abbrev pub term : ℕ → List ℕ
-term x = termText (variable x)
+term x = term_text (variable x)
 
 -- how many bytes that is, the operands left out
 unfoldable pub word_bytes : ℕ → ℕ
 word_bytes o = length (before o) + length (between o) + length (behind o)
 
 -- how many bytes a node has, those of its children left out
-unfoldable pub ownBytes : ℕ → ℕ → ℕ → ℕ
-ownBytes o x y = word_bytes o + pick (leb o 4) (length (term x) + length (term y)) 0
+unfoldable pub own_byte_count : ℕ → ℕ → ℕ → ℕ
+own_byte_count o x y = word_bytes o + pick (leb o 4) (length (term x) + length (term y)) 0

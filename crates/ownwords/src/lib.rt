@@ -4,7 +4,7 @@
 ghost use Rattle.std.specs.Prelude.{◌≡◌, ◌≤◌, length};
 ghost use Rattle.logic.specs.Book.{most};
 ghost use Rattle.put.specs.Puts.{Puts, Room};
-ghost use Rattle.ownwords.specs.OwnWords.{before, between, behind, around, term, word_bytes, ownBytes};
+ghost use Rattle.ownwords.specs.OwnWords.{before, between, behind, around, term, word_bytes, own_byte_count};
 
 use put::{put, put_word};
 
@@ -105,7 +105,7 @@ fn word_bytes(op: u8) -> usize
 // How many bytes a node has, those of its children left out.
 pub fn own_bytes(op: u8, x: u8, y: u8) -> usize
     requires { (1 ≤ op) × (op ≤ 10) }
-    ensures { (result ≡ ownBytes op x y) × (result ≤ 40) }
+    ensures { (result ≡ own_byte_count op x y) × (result ≤ 40) }
 {
     let words = word_bytes(op);
     if op > 4 {

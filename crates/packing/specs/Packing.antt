@@ -1,12 +1,12 @@
 -- A model's bytes packed into numbers, and a table copied into a larger one. Assumes nothing: these are definitions.
 use Rattle.std.specs.Prelude.{◌≡◌, Bool, true, false, List, ℕ, ◌+◌, ◌-◌, ◌<◌, ◌≤◌, get_or}
 use Rattle.logic.specs.Digits.{num_of}
-use Rattle.logic.specs.Model.{digitOf}
+use Rattle.logic.specs.Model.{digit_of}
 use Rattle.cells.specs.Cells.{cells}
 
 -- what is packed of a byte: a cell's digit, or a variable's location as it is
 abbrev pub item_of : Bool → ℕ → ℕ
-item_of true x = digitOf x
+item_of true x = digit_of x
 item_of false x = x
 
 -- the items of the bytes from a place on
@@ -14,8 +14,8 @@ abbrev pub items : Bool → List ℕ → ℕ → ℕ → ℕ
 items cell m from i = item_of cell (get_or m (from + i) 0)
 
 -- the items i to count - 1, the lowest first
-abbrev pub packedFrom : Bool → List ℕ → ℕ → ℕ → ℕ → ℕ
-packedFrom cell m from count i = num_of 256 (count - i) (λ j. items cell m from (i + j))
+abbrev pub packed_from : Bool → List ℕ → ℕ → ℕ → ℕ → ℕ
+packed_from cell m from count i = num_of 256 (count - i) (λ j. items cell m from (i + j))
 
 -- the first k places of f are copied into t, which has nothing behind them
 pub record Copying (f t : List ℕ) (k : ℕ) : Type 0 where

@@ -1,9 +1,9 @@
 // A model's bytes as one number, and a formula's table with room for the most nodes: what the judge's core takes.
 ghost use Rattle.std.specs.Prelude.{◌≡◌, ℕ, ◌+◌, ◌*◌, ◌≤◌, ◌<◌, length, get_or};
-ghost use Rattle.logic.specs.Book.{mostNodes};
+ghost use Rattle.logic.specs.Book.{most_nodes};
 ghost use Rattle.logic.specs.Reflect.{Is};
 ghost use Rattle.cells.specs.Cells.{most};
-ghost use Rattle.packing.specs.Packing.{item_of, packedFrom, AtMost};
+ghost use Rattle.packing.specs.Packing.{item_of, packed_from, AtMost};
 
 use logic::Table;
 
@@ -17,7 +17,7 @@ fn item(x: u8, cell: bool) -> u64
 // The stack or the heap that count bytes of a model are, packed.
 pub fn packed(model: &[u8], from: usize, count: usize, cell: bool) -> u64
     requires { (count ≤ most) × (from + count ≤ length model.now) }
-    ensures { result ≡ packedFrom cell model.now from count 0 }
+    ensures { result ≡ packed_from cell model.now from count 0 }
 {
     let mut w: u64 = 0;
     let mut i = count;
@@ -42,7 +42,7 @@ pub fn is_at_most(w: u64, k: u64) -> bool
 
 // The formula's table with zeros after it, as the judge's core takes it.
 pub fn table_of(f: &[u8]) -> Table
-    requires { length f.now ≤ 3 * mostNodes }
+    requires { length f.now ≤ 3 * most_nodes }
     ensures { (i : ℕ) → get_or result i 0 ≡ get_or f.now i 0 }
 {
     let mut t = [0u8; logic::TABLE];

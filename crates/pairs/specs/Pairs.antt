@@ -18,8 +18,8 @@ abbrev pub size : ℕ → ℕ
 size n = sets n + pairs n
 
 -- a pair is one number, 256 · set + part
-abbrev pub setOf : ℕ → ℕ
-setOf x = x / full
+abbrev pub set_of : ℕ → ℕ
+set_of x = x / full
 
 abbrev pub part_of : ℕ → ℕ
 part_of x = x % full
@@ -30,8 +30,8 @@ pair a m = a * full + m
 -- "ordered by set and then by part": after x comes the next part of its set, or the empty part of the next set
 unfoldable pub next : ℕ → ℕ
 next x =
-    let part = pair (setOf x) (bit_and (part_of x + (full - setOf x)) (setOf x)) in
-    pick (eqb (part_of x) (setOf x)) (pair (suc (setOf x)) 0) part
+    let part = pair (set_of x) (bit_and (part_of x + (full - set_of x)) (set_of x)) in
+    pick (eqb (part_of x) (set_of x)) (pair (suc (set_of x)) 0) part
 
 -- each pair is the one after the one before it, and the last is all of the last set
 unfoldable pub follow : ℕ → ℕ → List ℕ → Bool
@@ -39,9 +39,9 @@ follow n x [] = eqb x (pair (sets n - 1) (sets n - 1))
 follow n x (y ∷ ys) = let r = follow n y ys in andb (eqb y (next x)) r
 
 -- and the first is the empty part of the empty set
-unfoldable pub inOrder : ℕ → List ℕ → Bool
-inOrder n [] = false
-inOrder n (x ∷ xs) = andb (eqb x 0) (follow n x xs)
+unfoldable pub in_order : ℕ → List ℕ → Bool
+in_order n [] = false
+in_order n (x ∷ xs) = andb (eqb x 0) (follow n x xs)
 
 -- the stretches of the sets from a on begin at those places, below z, where xs is what there is from place k on
 unfoldable pub begins : ℕ → ℕ → ℕ → List ℕ → List ℕ → Bool
@@ -54,7 +54,7 @@ begins z a k (b ∷ bs) xs =
 -- the test of the whole table for n locations
 pub record Listed (n : ℕ) (t : List ℕ) : Type 0 where
   pub long : length t ≡ size n
-  pub ordered : inOrder n (drop (sets n) t) ≡ true
+  pub ordered : in_order n (drop (sets n) t) ≡ true
   pub begun : begins (size n) 0 (sets n) (take (sets n) t) (drop (sets n) t) ≡ true
 
 -- t is a table for l locations or more
@@ -75,4 +75,4 @@ pub record Inside (t : List ℕ) (i a : ℕ) : Type 0 where
   pub passed : Listed locs t
   pub low : sets locs ≤ i
   pub high : i < length t
-  pub set : setOf (get_or t i 0) ≡ a
+  pub set : set_of (get_or t i 0) ≡ a

@@ -10,54 +10,54 @@ use Rattle.std.specs.Int.Bits.{bit_and, and_zero_l}
 use Rattle.std.proofs.lemmas.Nat.{and_le_r}
 use borrow.Author.Tests.{eqb-true, eq-eqb, ne_eqb, leb-true, ltb-true}
 use Rattle.logic.specs.Tests.{andb}
-use Rattle.logic.specs.Book.{most as mostListed}
-use Rattle.logic.specs.Reflect.{is-and, is-self}
+use Rattle.logic.specs.Book.{most as most_listed}
+use Rattle.logic.specs.Reflect.{is_and, is_self}
 use Rattle.cells.specs.Cells.{most, full, Sub}
-use Rattle.cells.specs.Subsets.{next-above, next-least, and-sub}
-use Rattle.pairs.specs.Pairs.{sets, setOf, part_of, pair, next, follow, begins}
+use Rattle.cells.specs.Subsets.{next_above, next_least, and_sub}
+use Rattle.pairs.specs.Pairs.{sets, set_of, part_of, pair, next, follow, begins}
 
-pub set-of : (a : ℕ) {m : ℕ} → m < full → setOf (pair a m) ≡ a
-set-of a l = digits_div a l
+pub set_of_pair : (a : ℕ) {m : ℕ} → m < full → set_of (pair a m) ≡ a
+set_of_pair a l = digits_div a l
 
-pub part-of : (a : ℕ) {m : ℕ} → m < full → part_of (pair a m) ≡ m
-part-of a l = digits_mod a l
+pub part_of_pair : (a : ℕ) {m : ℕ} → m < full → part_of (pair a m) ≡ m
+part_of_pair a l = digits_mod a l
 
-pub pair_of : (x : ℕ) → pair (setOf x) (part_of x) ≡ x
+pub pair_of : (x : ℕ) → pair (set_of x) (part_of x) ≡ x
 pair_of x = div-add-mod' x full
 
 pub part_low : (x : ℕ) → part_of x < full
 part_low x = mod-lt x {m = full} (omega arith)
 
-pub zero-low : 0 < full
-zero-low = omega arith
+pub zero_low : 0 < full
+zero_low = omega arith
 
 -- the part after m in the set a
 abbrev pub after : ℕ → ℕ → ℕ
 after a m = bit_and (m + (full - a)) a
 
-pub next-whole : (x : ℕ) → part_of x ≡ setOf x → next x ≡ pair (suc (setOf x)) 0
+pub next_whole : (x : ℕ) → part_of x ≡ set_of x → next x ≡ pair (suc (set_of x)) 0
 unfolding next
-next-whole x e = rw (eq-eqb (part_of x) (setOf x) e)
+next_whole x e = rw (eq-eqb (part_of x) (set_of x) e)
 
-pub next-part : (x : ℕ) → ¬ (part_of x ≡ setOf x) → next x ≡ pair (setOf x) (after (setOf x) (part_of x))
+pub next_part : (x : ℕ) → ¬ (part_of x ≡ set_of x) → next x ≡ pair (set_of x) (after (set_of x) (part_of x))
 unfolding next
-next-part x e = rw (ne_eqb (part_of x) (setOf x) e)
+next_part x e = rw (ne_eqb (part_of x) (set_of x) e)
 
 -- the next pair's set is not below this one's
-pub next-set : (x : ℕ) → setOf x ≤ setOf (next x)
-next-set x = go (ℕ_discrete (part_of x) (setOf x))
+pub next_set : (x : ℕ) → set_of x ≤ set_of (next x)
+next_set x = go (ℕ_discrete (part_of x) (set_of x))
   where
-    set-low : (a m : ℕ) → a ≤ setOf (pair a m)
-    set-low a m =
+    set_low : (a m : ℕ) → a ≤ set_of (pair a m)
+    set_low a m =
         let e : (m + a * full) / full ≡ m / full + a = add-mul-div_right m a (omega arith) in
         rw (add_comm (a * full) m, e) (omega arith)
 
-    go : Dec (part_of x ≡ setOf x) → setOf x ≤ setOf (next x)
-    go (yes e) = rw (next-whole x e) (le_trans (omega arith) (set-low (suc (setOf x)) 0))
-    go (no e) = rw (next-part x e) (set-low (setOf x) (after (setOf x) (part_of x)))
+    go : Dec (part_of x ≡ set_of x) → set_of x ≤ set_of (next x)
+    go (yes e) = rw (next_whole x e) (le_trans (omega arith) (set_low (suc (set_of x)) 0))
+    go (no e) = rw (next_part x e) (set_low (set_of x) (after (set_of x) (part_of x)))
 
-pub sub-le : (m a : ℕ) → Sub m a → m ≤ a
-sub-le m a s = subst (λ (x : ℕ). x ≤ a) s (and_le_r m a)
+pub sub_le : (m a : ℕ) → Sub m a → m ≤ a
+sub_le m a s = subst (λ (x : ℕ). x ≤ a) s (and_le_r m a)
 
 module _ (a m : ℕ) (low : a < full) (s : Sub m a) where
   whole : full - 1 - a + a + 1 ≡ 2 ^ most
@@ -67,47 +67,47 @@ module _ (a m : ℕ) (low : a < full) (s : Sub m a) where
   step = omega arith
 
   -- the part after m is above it
-  pub after-up : ¬ (m ≡ a) → m < after a m
-  after-up e = rw step (next-above most m a (full - 1 - a) whole s (omega (arith, sub-le m a s)))
+  pub after_up : ¬ (m ≡ a) → m < after a m
+  after_up e = rw step (next_above most m a (full - 1 - a) whole s (omega (arith, sub_le m a s)))
 
   -- and no part lies between
-  pub after-least : (i : ℕ) → Sub i a → m < i → after a m ≤ i
-  after-least i d l = rw step (next-least most m a (full - 1 - a) i whole s d l)
+  pub after_least : (i : ℕ) → Sub i a → m < i → after a m ≤ i
+  after_least i d l = rw step (next_least most m a (full - 1 - a) i whole s d l)
 
-module _ (x : ℕ) (low : setOf x < full) where
-  after-low : after (setOf x) (part_of x) < full
-  after-low = lt_of_le_of_lt (and_le_r (part_of x + (full - setOf x)) (setOf x)) low
+module _ (x : ℕ) (low : set_of x < full) where
+  after_low : after (set_of x) (part_of x) < full
+  after_low = lt_of_le_of_lt (and_le_r (part_of x + (full - set_of x)) (set_of x)) low
 
   -- the next pair's part is one of its set
-  pub next-sub : Sub (part_of (next x)) (setOf (next x))
-  next-sub = go (ℕ_discrete (part_of x) (setOf x))
+  pub next_sub : Sub (part_of (next x)) (set_of (next x))
+  next_sub = go (ℕ_discrete (part_of x) (set_of x))
     where
-      go : Dec (part_of x ≡ setOf x) → Sub (part_of (next x)) (setOf (next x))
-      go (yes e) = rw (next-whole x e, part-of (suc (setOf x)) zero-low) (and_zero_l (setOf (pair (suc (setOf x)) 0)))
-      go (no e) = rw (next-part x e, part-of (setOf x) after-low, set-of (setOf x) after-low) (and-sub most (part_of x + (full - setOf x)) (setOf x) low)
+      go : Dec (part_of x ≡ set_of x) → Sub (part_of (next x)) (set_of (next x))
+      go (yes e) = rw (next_whole x e, part_of_pair (suc (set_of x)) zero_low) (and_zero_l (set_of (pair (suc (set_of x)) 0)))
+      go (no e) = rw (next_part x e, part_of_pair (set_of x) after_low, set_of_pair (set_of x) after_low) (and_sub most (part_of x + (full - set_of x)) (set_of x) low)
 
   -- it is above this one
-  pub next_up : Sub (part_of x) (setOf x) → x < next x
-  next_up s = go (ℕ_discrete (part_of x) (setOf x))
+  pub next_up : Sub (part_of x) (set_of x) → x < next x
+  next_up s = go (ℕ_discrete (part_of x) (set_of x))
     where
-      go : Dec (part_of x ≡ setOf x) → x < next x
-      go (yes e) = rw (next-whole x e) (omega (arith, pair_of x, part_low x))
-      go (no e) = rw (next-part x e) (omega (arith, pair_of x, after-up (setOf x) (part_of x) low s e))
+      go : Dec (part_of x ≡ set_of x) → x < next x
+      go (yes e) = rw (next_whole x e) (omega (arith, pair_of x, part_low x))
+      go (no e) = rw (next_part x e) (omega (arith, pair_of x, after_up (set_of x) (part_of x) low s e))
 
   -- it is in the same set where this one is not all of it
-  pub next-stays : ¬ (part_of x ≡ setOf x) → (setOf (next x) ≡ setOf x) × (part_of (next x) ≡ after (setOf x) (part_of x))
-  next-stays e = rw (next-part x e) (set-of (setOf x) after-low, part-of (setOf x) after-low)
+  pub next_stays : ¬ (part_of x ≡ set_of x) → (set_of (next x) ≡ set_of x) × (part_of (next x) ≡ after (set_of x) (part_of x))
+  next_stays e = rw (next_part x e) (set_of_pair (set_of x) after_low, part_of_pair (set_of x) after_low)
 
 -- ---- lists in which each pair follows the one before
 pub split : (a b : Bool) → andb a b ≡ true → (a ≡ true) × (b ≡ true)
-split a b e = (is-and a b (is-self a) (is-self b)).to e
+split a b e = (is_and a b (is_self a) (is_self b)).to e
 
 -- a table for n locations has a set, and no more than there are
-pub some-sets : (n : ℕ) → 0 < sets n
-some-sets n = pow-le-pow_right {n = 2} (omega arith) zero-le
+pub some_sets : (n : ℕ) → 0 < sets n
+some_sets n = pow-le-pow_right {n = 2} (omega arith) zero-le
 
-pub few-sets : (n : ℕ) → n ≤ mostListed → sets n ≤ full
-few-sets n few = pow-le-pow_right {n = 2} (omega arith) few
+pub few_sets : (n : ℕ) → n ≤ most_listed → sets n ≤ full
+few_sets n few = pow-le-pow_right {n = 2} (omega arith) few
 
 module _ (n : ℕ) where
   pub follows : (x : ℕ) (xs : List ℕ) → follow n x xs ≡ true → (k : ℕ) → k < length xs → get_or xs k 0 ≡ next (get_or (x ∷ xs) k 0)
@@ -122,17 +122,17 @@ module _ (n : ℕ) where
   ends x (y ∷ ys) t = ends y ys (split (eqb y (next x)) (follow n y ys) t).1
 
   -- the number of the last set, which is its greatest part too
-  pub last-low : n ≤ mostListed → sets n - 1 < full
-  last-low few = omega (arith, few-sets n few, some-sets n)
+  pub last_low : n ≤ most_listed → sets n - 1 < full
+  last_low few = omega (arith, few_sets n few, some_sets n)
 
-  pub sets-low : n ≤ mostListed → (x : ℕ) (xs : List ℕ) → follow n x xs ≡ true → (k : ℕ) → k ≤ length xs → setOf (get_or (x ∷ xs) k 0) < sets n
+  pub sets_low : n ≤ most_listed → (x : ℕ) (xs : List ℕ) → follow n x xs ≡ true → (k : ℕ) → k ≤ length xs → set_of (get_or (x ∷ xs) k 0) < sets n
   unfolding follow
-  sets-low few x [] t zero h = rw (eqb-true x _ t, set-of (sets n - 1) (last-low few)) (omega (arith, some-sets n))
-  sets-low few x [] t (suc k) h = absurd (not-suc-le-zero h)
-  sets-low few x (y ∷ ys) t zero h =
+  sets_low few x [] t zero h = rw (eqb-true x _ t, set_of_pair (sets n - 1) (last_low few)) (omega (arith, some_sets n))
+  sets_low few x [] t (suc k) h = absurd (not-suc-le-zero h)
+  sets_low few x (y ∷ ys) t zero h =
       let q = split (eqb y (next x)) (follow n y ys) t in
-      lt_of_le_of_lt (next-set x) (subst (λ (z : ℕ). setOf z < sets n) (eqb-true y (next x) q.0) (sets-low few y ys q.1 0 zero-le))
-  sets-low few x (y ∷ ys) t (suc k) h = sets-low few y ys (split (eqb y (next x)) (follow n y ys) t).1 k (le_of_suc-le-suc h)
+      lt_of_le_of_lt (next_set x) (subst (λ (z : ℕ). set_of z < sets n) (eqb-true y (next x) q.0) (sets_low few y ys q.1 0 zero-le))
+  sets_low few x (y ∷ ys) t (suc k) h = sets_low few y ys (split (eqb y (next x)) (follow n y ys) t).1 k (le_of_suc-le-suc h)
 
 -- ---- where the stretches begin
 pub record Begun (z a k : ℕ) (bs xs : List ℕ) (i : ℕ) : Type 0 where

@@ -2,7 +2,7 @@
 use Rattle.std.specs.Prelude.{◌≡◌, List, ◌++◌, ℕ, ◌*◌, length, drop, replicate}
 use Rattle.logic.specs.declared.Profile.TheVariants.{Strong}
 use Rattle.logic.specs.declared.Answer.{Answer}
-use Rattle.logic.specs.Book.{most, varsOf, locs_of}
+use Rattle.logic.specs.Book.{most, vars_of, locs_of}
 use Rattle.logic.specs.Search.{SearchesWithin}
 use Rattle.lines.specs.Printed.{printed}
 
@@ -11,18 +11,18 @@ abbrev pub budget : ℕ
 budget = 1000000
 
 -- the search's output, before the search: room for every model
-abbrev pub blankWithin : ℕ → List ℕ
-blankWithin k = replicate (2 * k) 0
+abbrev pub blank_within : ℕ → List ℕ
+blank_within k = replicate (2 * k) 0
 
 abbrev pub blank : List ℕ
-blank = blankWithin most
+blank = blank_within most
 
 -- "The program `shape` reads a book .., searches .. and .. prints": the lines of the search's answer and of its model
 pub record PrintsWithin (k : ℕ) (s lines : List ℕ) : Type 0 where
   pub answer : Answer
   pub model : List ℕ
-  pub search : SearchesWithin k Strong s budget (blankWithin k) answer model
-  pub shows : lines ≡ printed answer (varsOf s) (locs_of s) model
+  pub search : SearchesWithin k Strong s budget (blank_within k) answer model
+  pub shows : lines ≡ printed answer (vars_of s) (locs_of s) model
 
 abbrev pub Prints : List ℕ → List ℕ → Type 0
 Prints s lines = PrintsWithin most s lines

@@ -19,46 +19,46 @@ puts_one at x o l = record { room = l; wrote = sets-eq (x ∷ []) o at l; after 
 
 module _ {at : ℕ} {bs o o' : List ℕ} {m : ℕ} (p : Puts at bs o o' m) where
   -- the same as a copy of all the bytes
-  puts-paste : o' ≡ paste o at bs (length bs)
-  puts-paste = p.wrote ∙ ap (λ (r : List ℕ). take at o ++ r ++ drop (at + length bs) o) (sym (take-length bs))
+  puts_paste : o' ≡ paste o at bs (length bs)
+  puts_paste = p.wrote ∙ ap (λ (r : List ℕ). take at o ++ r ++ drop (at + length bs) o) (sym (take-length bs))
 
-  pub puts-long : length o' ≡ length o
-  puts-long = ap length puts-paste ∙ length-paste o at bs (length bs) p.room (omega arith)
+  pub puts_long : length o' ≡ length o
+  puts_long = ap length puts_paste ∙ length-paste o at bs (length bs) p.room (omega arith)
 
-  puts-front : take m o' ≡ take at o ++ bs
-  puts-front =
-      ap₂ take p.after puts-paste
+  puts_front : take m o' ≡ take at o ++ bs
+  puts_front =
+      ap₂ take p.after puts_paste
       ∙ take-paste o at bs (length bs) (omega (arith, p.room)) (omega arith)
       ∙ ap (λ (r : List ℕ). take at o ++ r) (take-length bs)
 
-  puts-rest : drop m o' ≡ drop m o
-  puts-rest =
-      ap₂ drop p.after puts-paste
+  puts_rest : drop m o' ≡ drop m o
+  puts_rest =
+      ap₂ drop p.after puts_paste
       ∙ drop-paste o at bs (length bs) (omega (arith, p.room)) (omega arith)
       ∙ ap (λ (k : ℕ). drop k o) (sym p.after)
 
   -- room for more bytes behind
-  pub room-behind : (ys : List ℕ) → Room at (bs ++ ys) o → Room m ys o'
-  room-behind ys l = omega (arith, p.after, puts-long, length-append bs ys)
+  pub room_behind : (ys : List ℕ) → Room at (bs ++ ys) o → Room m ys o'
+  room_behind ys l = omega (arith, p.after, puts_long, length-append bs ys)
 
-pub room-first : (at : ℕ) (xs ys o : List ℕ) → Room at (xs ++ ys) o → Room at xs o
-room-first at xs ys o l = omega (arith, length-append xs ys)
+pub room_first : (at : ℕ) (xs ys o : List ℕ) → Room at (xs ++ ys) o → Room at xs o
+room_first at xs ys o l = omega (arith, length-append xs ys)
 
-pub puts-puts : {at : ℕ} {xs ys o p q : List ℕ} {m r : ℕ} → Puts at xs o p m → Puts m ys p q r → Puts at (xs ++ ys) o q r
-puts-puts {at} {xs} {ys} {o} {p} {q} {m} {r} a b =
+pub puts_puts : {at : ℕ} {xs ys o p q : List ℕ} {m r : ℕ} → Puts at xs o p m → Puts m ys p q r → Puts at (xs ++ ys) o q r
+puts_puts {at} {xs} {ys} {o} {p} {q} {m} {r} a b =
     let long : at + length (xs ++ ys) ≡ m + length ys = omega (arith, length-append xs ys, a.after) in
     let back : drop (m + length ys) p ≡ drop (at + length (xs ++ ys)) o =
-    sym (drop-drop (length ys) m p) ∙ ap (drop (length ys)) (puts-rest a) ∙ drop-drop (length ys) m o ∙ ap (λ (k : ℕ). drop k o) (sym long) in
+    sym (drop-drop (length ys) m p) ∙ ap (drop (length ys)) (puts_rest a) ∙ drop-drop (length ys) m o ∙ ap (λ (k : ℕ). drop k o) (sym long) in
     record {
-      room = omega (arith, puts-long a, b.room, long);
+      room = omega (arith, puts_long a, b.room, long);
       wrote = b.wrote
-          ∙ ap₂ (λ (f e : List ℕ). f ++ ys ++ e) (puts-front a) back
+          ∙ ap₂ (λ (f e : List ℕ). f ++ ys ++ e) (puts_front a) back
           ∙ ap (λ (f : List ℕ). f ++ drop (at + length (xs ++ ys)) o) (append_assoc (take at o) xs ys);
       after = b.after ∙ sym long;
     }
 
-pub puts-as : {at : ℕ} {xs ys o p : List ℕ} {m : ℕ} → xs ≡ ys → Puts at xs o p m → Puts at ys o p m
-puts-as {at} {xs} {ys} {o} {p} {m} e a = subst (λ (bs : List ℕ). Puts at bs o p m) e a
+pub puts_as : {at : ℕ} {xs ys o p : List ℕ} {m : ℕ} → xs ≡ ys → Puts at xs o p m → Puts at ys o p m
+puts_as {at} {xs} {ys} {o} {p} {m} e a = subst (λ (bs : List ℕ). Puts at bs o p m) e a
 
 pub room_as : {xs ys : List ℕ} (at : ℕ) (o : List ℕ) → xs ≡ ys → Room at ys o → Room at xs o
 room_as at o e r = omega (arith, ap length e)
@@ -73,7 +73,7 @@ module _ (w : List ℕ) (i : ℕ) (l : i < length w) where
       omega (arith, r, ap length word_more, ap length (take-append-drop (i + 1) w), length-append (take (i + 1) w) (drop (i + 1) w))
 
 -- what is written from place 0 on stands at the front
-pub puts-at-front : (bs o o' : List ℕ) (m : ℕ) → Puts 0 bs o o' m → (m ≡ length bs) × (o' ≡ bs ++ drop (length bs) o)
-puts-at-front bs o o' m p =
+pub puts_at_front : (bs o o' : List ℕ) (m : ℕ) → Puts 0 bs o o' m → (m ≡ length bs) × (o' ≡ bs ++ drop (length bs) o)
+puts_at_front bs o o' m p =
     let same : 0 + length bs ≡ length bs = omega arith in
     (p.after ∙ same, p.wrote ∙ ap (λ (k : ℕ). bs ++ drop k o) same)

@@ -23,5 +23,5 @@ pub record OldAnswers (k : ℕ) (s : List ℕ) : Type 0 where
   pub print : (o : List ℕ) (r : ℕ) (o' : List ℕ) → PutsPrintedWithin k s o r o' ↔ PutsPrinted s o r o'
 
 -- the most that v, n and p could be before request 13
-abbrev pub formerMost : ℕ
-formerMost = 6
+abbrev pub former_most : ℕ
+former_most = 6

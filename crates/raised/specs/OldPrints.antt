@@ -6,27 +6,27 @@ use Rattle.std.proofs.Math.Decide.{ℕ_discrete}
 use Rattle.std.proofs.lemmas.List.{length-replicate}
 use Rattle.logic.specs.declared.Profile.TheVariants.{Strong}
 use Rattle.logic.specs.declared.Answer.{Answer}
-use Rattle.logic.specs.Numbers.{yes-number, output-length}
+use Rattle.logic.specs.Numbers.{yes_number, output_length}
 use Rattle.logic.specs.Checks.{upto, Answers}
-use Rattle.logic.specs.Tests.{heapOf}
-use Rattle.logic.specs.Book.{stretch, varsOf, locs_of, formulaOf, BoundsWithin}
-use Rattle.logic.specs.Strays.{nameChecks}
-use Rattle.logic.specs.Candidates.{stack_of, bytesTo, byte_of, modelOf}
-use Rattle.logic.specs.CandidateLaws.{bytes-long}
-use Rattle.logic.specs.Search.{FitsAt, total_of, Outcome, searchChecksWithin}
-use Rattle.lines.specs.Printed.{printed, printedModel, firstLine, line, stack-word, heap-word, printedValue}
-use Rattle.lines.specs.PrintedLaws.{printed-no}
+use Rattle.logic.specs.Tests.{heap_of}
+use Rattle.logic.specs.Book.{stretch, vars_of, locs_of, formula_of, BoundsWithin}
+use Rattle.logic.specs.Strays.{name_checks}
+use Rattle.logic.specs.Candidates.{stack_of, bytes_to, byte_of, model_of}
+use Rattle.logic.specs.CandidateLaws.{bytes_long}
+use Rattle.logic.specs.Search.{FitsAt, total_of, Outcome, search_checks_within}
+use Rattle.lines.specs.Printed.{printed, printed_model, first_line, line, stack_word, heap_word, printed_value}
+use Rattle.lines.specs.PrintedLaws.{printed_no}
 use Rattle.put.specs.Decimal.{choose, decimal}
-use Rattle.print.specs.Prints.{budget, blankWithin, PrintsWithin, PutsPrintedWithin}
+use Rattle.print.specs.Prints.{budget, blank_within, PrintsWithin, PutsPrintedWithin}
 use Rattle.raised.specs.Alike.{Alike, no_part, part}
-use Rattle.raised.specs.AlikeLaws.{alike_same, alike_then, alike-answers}
-use Rattle.raised.specs.BookAlike.{book-alike}
+use Rattle.raised.specs.AlikeLaws.{alike_same, alike_then, alike_answers}
+use Rattle.raised.specs.BookAlike.{book_alike}
 
 -- nothing behind a model is printed
-printed-front : (a : Answer) (v n : ℕ) (x y : List ℕ) → length x ≡ v → length y ≡ n → (r t : List ℕ) → printed a v n ((x ++ y) ++ r) ≡ printed a v n ((x ++ y) ++ t)
-unfolding printed printedModel
-printed-front a v n x y p q r t =
-    ap₂ (λ (c d : List ℕ). choose (eqb a.number yes-number) (firstLine a ++ (line stack-word decimal c ++ line heap-word printedValue d)) (firstLine a))
+printed_front : (a : Answer) (v n : ℕ) (x y : List ℕ) → length x ≡ v → length y ≡ n → (r t : List ℕ) → printed a v n ((x ++ y) ++ r) ≡ printed a v n ((x ++ y) ++ t)
+unfolding printed printed_model
+printed_front a v n x y p q r t =
+    ap₂ (λ (c d : List ℕ). choose (eqb a.number yes_number) (first_line a ++ (line stack_word decimal c ++ line heap_word printed_value d)) (first_line a))
     (front r ∙ sym (front t)) (behind r ∙ sym (behind t))
   where
     front : (r : List ℕ) → take v ((x ++ y) ++ r) ≡ x
@@ -36,43 +36,43 @@ printed-front a v n x y p q r t =
     behind r = ap (λ (z : List ℕ). take n (drop v z)) (append_assoc x y r) ∙ ap (take n) (drop_at x (y ++ r) v p) ∙ take_at y r n q
 
 module _ (s : List ℕ) where
-  room : (k : ℕ) → BoundsWithin k (stretch s 0) → varsOf s + locs_of s ≤ length (blankWithin k)
+  room : (k : ℕ) → BoundsWithin k (stretch s 0) → vars_of s + locs_of s ≤ length (blank_within k)
   room k b = omega (arith, b.vars, b.locs, length-replicate {A = ℕ} (2 * k) 0)
 
   module _ (k j : ℕ) (b : BoundsWithin k (stretch s 0)) (c : BoundsWithin j (stretch s 0)) where
-    search-alike : Alike (searchChecksWithin k s (blankWithin k)) (searchChecksWithin j s (blankWithin j))
-    search-alike =
-        alike_then (book-alike k j s b c)
-        (alike_then (alike_same (upto (nameChecks (formulaOf s)) (varsOf s))) (part output-length 0 (λ _. room j c, λ _. room k b) no_part))
+    search_alike : Alike (search_checks_within k s (blank_within k)) (search_checks_within j s (blank_within j))
+    search_alike =
+        alike_then (book_alike k j s b c)
+        (alike_then (alike_same (upto (name_checks (formula_of s)) (vars_of s))) (part output_length 0 (λ _. room j c, λ _. room k b) no_part))
 
-    prints-same : (lines : List ℕ) → PrintsWithin k s lines → PrintsWithin j s lines
-    prints-same lines p = go (ℕ_discrete a.number yes-number)
+    prints_same : (lines : List ℕ) → PrintsWithin k s lines → PrintsWithin j s lines
+    prints_same lines p = go (ℕ_discrete a.number yes_number)
       where
         a : Answer
         a = p.answer
 
-        answered : Answers (searchChecksWithin j s (blankWithin j)) (Outcome (FitsAt Strong s) (total_of s) budget) a
-        answered = alike-answers search-alike (Outcome (FitsAt Strong s) (total_of s) budget) a p.search.answer
+        answered : Answers (search_checks_within j s (blank_within j)) (Outcome (FitsAt Strong s) (total_of s) budget) a
+        answered = alike_answers search_alike (Outcome (FitsAt Strong s) (total_of s) budget) a p.search.answer
 
-        go : Dec (a.number ≡ yes-number) → PrintsWithin j s lines
+        go : Dec (a.number ≡ yes_number) → PrintsWithin j s lines
         go (yes e) =
-            let v = varsOf s in
+            let v = vars_of s in
             let n = locs_of s in
             let i = a.tried - 1 in
             record {
               answer = a;
-              model = modelOf v n i ++ drop (v + n) (blankWithin j);
+              model = model_of v n i ++ drop (v + n) (blank_within j);
               search = record { answer = answered; wrote = λ _. refl; kept = λ f. absurd (f e) };
               shows = p.shows ∙ ap (printed a v n) (p.search.wrote e)
-                  ∙ printed-front a v n (bytesTo v (stack_of v n i)) (bytesTo n (λ ℓ. byte_of (heapOf n i ℓ))) (bytes-long v (stack_of v n i)) (bytes-long n (λ ℓ. byte_of (heapOf n i ℓ))) (drop (v + n) (blankWithin k)) (drop (v + n) (blankWithin j));
+                  ∙ printed_front a v n (bytes_to v (stack_of v n i)) (bytes_to n (λ ℓ. byte_of (heap_of n i ℓ))) (bytes_long v (stack_of v n i)) (bytes_long n (λ ℓ. byte_of (heap_of n i ℓ))) (drop (v + n) (blank_within k)) (drop (v + n) (blank_within j));
             }
         go (no f) =
             record {
               answer = a;
-              model = blankWithin j;
+              model = blank_within j;
               search = record { answer = answered; wrote = λ e. absurd (f e); kept = λ _. refl };
-              shows = p.shows ∙ sym (printed-no a (varsOf s) (locs_of s) p.model f) ∙ printed-no a (varsOf s) (locs_of s) (blankWithin j) f;
+              shows = p.shows ∙ sym (printed_no a (vars_of s) (locs_of s) p.model f) ∙ printed_no a (vars_of s) (locs_of s) (blank_within j) f;
             }
 
-    pub puts-printed-same : (o : List ℕ) (r : ℕ) (o' : List ℕ) → PutsPrintedWithin k s o r o' → PutsPrintedWithin j s o r o'
-    puts-printed-same o r o' p = record { lines = p.lines; prints = prints-same p.lines p.prints; size = p.size; output = p.output }
+    pub puts_printed_same : (o : List ℕ) (r : ℕ) (o' : List ℕ) → PutsPrintedWithin k s o r o' → PutsPrintedWithin j s o r o'
+    puts_printed_same o r o' p = record { lines = p.lines; prints = prints_same p.lines p.prints; size = p.size; output = p.output }

@@ -4,7 +4,7 @@ ghost use Rattle.logic.specs.Checks.{Answers, upto};
 ghost use Rattle.logic.specs.CheckLaws.{Yes};
 ghost use Rattle.logic.specs.Reflect.{Is};
 ghost use Rattle.logic.specs.Book.{most};
-ghost use Rattle.logic.specs.Model.{InRange, byteChecks};
+ghost use Rattle.logic.specs.Model.{InRange, byte_checks};
 ghost use Rattle.ranges.specs.Packs.{Long, Holding, Packs};
 
 use leaves::{answer_of, wide};
@@ -34,7 +34,7 @@ fn is_in_range(v: usize, n: usize, i: usize, x: u8) -> bool
 // The first byte that is out of range.
 fn first_out(v: usize, n: usize, model: &[u8]) -> Answer
     requires { Long v n model.now }
-    ensures { Answers (upto (byteChecks v n model.now) (v + n)) Yes result }
+    ensures { Answers (upto (byte_checks v n model.now) (v + n)) Yes result }
 {
     let mut i: usize = 0;
     while i < v + n {
@@ -49,7 +49,7 @@ fn first_out(v: usize, n: usize, model: &[u8]) -> Answer
 // Whether each byte is in range: of all at once, and one by one only where a byte is not, for its place.
 fn in_range(v: usize, n: usize, model: &[u8], stack: u64, heap: u64) -> Answer
     requires { Holding v n model.now stack heap }
-    ensures { Answers (upto (byteChecks v n model.now) (v + n)) Yes result }
+    ensures { Answers (upto (byte_checks v n model.now) (v + n)) Yes result }
 {
     if is_at_most(stack, n as u64) {
         if is_at_most(heap, n as u64 + 1) {

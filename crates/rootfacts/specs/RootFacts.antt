@@ -13,19 +13,19 @@ abbrev pub entries : ℕ
 entries = suc most
 
 -- sets of digits are the numbers below this one
-abbrev pub setSize : ℕ
-setSize = 2 ^ 16
+abbrev pub set_size : ℕ
+set_size = 2 ^ 16
 
 -- an entry has the digits that may stand at its location, and the cap above them
-abbrev pub digitsAt : List ℕ → ℕ → ℕ
-digitsAt t ℓ = get_or t ℓ 0 % setSize
+abbrev pub digits_at : List ℕ → ℕ → ℕ
+digits_at t ℓ = get_or t ℓ 0 % set_size
 
 abbrev pub cap_at : List ℕ → ℕ → ℕ
-cap_at t ℓ = get_or t ℓ 0 / setSize
+cap_at t ℓ = get_or t ℓ 0 / set_size
 
 -- they hold for the formula F at ℓ, in either profile and with any number of variables named
 pub record EntryAt (n : ℕ) (F : Form) (s : Map) (t : List ℕ) (ℓ : ℕ) : Type 0 where
-  pub digits : (π : Profile) (v : ℕ) → Digits π v n F s ℓ (In (digitsAt t ℓ))
+  pub digits : (π : Profile) (v : ℕ) → Digits π v n F s ℓ (In (digits_at t ℓ))
   pub caps : (π : Profile) (v : ℕ) → Caps π v n F s ℓ (cap_at t ℓ)
   pub low : cap_at t ℓ ≤ 255
 

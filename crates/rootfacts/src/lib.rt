@@ -1,11 +1,11 @@
 // The facts of a node of a table at one location, and of a formula at every location: an entry a location.
 ghost use Rattle.std.specs.Prelude.{◌≡◌, suc, ◌%◌, ◌/◌, ◌<◌, ◌≤◌, eqb};
 ghost use Rattle.logic.specs.Table.{op_of, tree};
-ghost use Rattle.logic.specs.Tests.{inPart};
+ghost use Rattle.logic.specs.Tests.{in_part};
 ghost use Rattle.cells.specs.Cells.{most, cells};
 ghost use Rattle.facts.specs.Known.{Small};
 ghost use Rattle.rootfacts.specs.NodeFacts.{Readable, KnownAt};
-ghost use Rattle.rootfacts.specs.RootFacts.{digitsAt, cap_at, Facts, setSize};
+ghost use Rattle.rootfacts.specs.RootFacts.{digits_at, cap_at, Facts, set_size};
 
 use atomfacts::atom_fact;
 use cells::cell;
@@ -52,7 +52,7 @@ pub type Entries = [u64; ENTRIES];
 // The set of digits in the 16 lowest bits, and the cap above them.
 fn packed(a: Fact) -> u64
     requires { Small a }
-    ensures { (result % setSize ≡ a.digits) × (result / setSize ≡ a.cap) }
+    ensures { (result % set_size ≡ a.digits) × (result / set_size ≡ a.cap) }
 {
     a.digits + 65536 * a.cap
 }
@@ -79,7 +79,7 @@ pub fn root_facts(f: &Table, k: usize, n: u64, s: u64) -> Entries
 // Whether digit d may stand at location l.
 pub fn may_stand(t: &Entries, l: u64, d: u64) -> bool
     requires { (l ≤ most) × (d ≤ suc most) }
-    ensures { result ≡ inPart (digitsAt t.now l) (suc d) }
+    ensures { result ≡ in_part (digits_at t.now l) (suc d) }
 {
     ((t[l as usize] % 65536) >> d) % 2 == 1
 }
@@ -94,7 +94,7 @@ pub fn cap_at(t: &Entries, l: u64) -> u64
 
 // Whether no heap fits: at nil some digit may stand if one may at every location.
 pub fn is_hopeless(t: &Entries) -> bool
-    ensures { result ≡ eqb (digitsAt t.now 0) 0 }
+    ensures { result ≡ eqb (digits_at t.now 0) 0 }
 {
     t[0] % 65536 == 0
 }

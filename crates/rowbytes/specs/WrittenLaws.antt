@@ -6,32 +6,32 @@ use Rattle.std.proofs.lemmas.List.Edits.{sets-eq}
 use Rattle.std.proofs.Math.Seq.{drop-append-add}
 use Rattle.rows.specs.declared.Fields.{Fields}
 use Rattle.rows.specs.declared.Next.{Next}
-use Rattle.rows.specs.Row.{Row, fields_of, tenBytes, bytes_of}
+use Rattle.rows.specs.Row.{Row, fields_of, ten_bytes, bytes_of}
 use Rattle.rows.specs.Table.{moved}
-use Rattle.rows.specs.OutputLaws.{bytes-append, bytes-long}
+use Rattle.rows.specs.OutputLaws.{bytes_append, bytes_long}
 use Rattle.rowbytes.specs.Written.{put, Puts, Space}
 
-pub put-put : (at : ℕ) (xs ys o : List ℕ) → at + length xs ≤ length o → put (at + length xs) ys (put at xs o) ≡ put at (xs ++ ys) o
+pub put_put : (at : ℕ) (xs ys o : List ℕ) → at + length xs ≤ length o → put (at + length xs) ys (put at xs o) ≡ put at (xs ++ ys) o
 unfolding put
-put-put at xs ys o h =
+put_put at xs ys o h =
     let n : length (take at o ++ xs) ≡ at + length xs = simp (length-append, length-take-le at o (omega arith)) in
     let m : at + length xs + length ys ≡ length (take at o ++ xs) + length ys = omega arith in
     let w : at + length xs + length ys ≡ at + length (xs ++ ys) = simp length-append (omega arith) in
     rw (take_at (take at o ++ xs) (drop (at + length xs) o) (at + length xs) n, m, drop-append-add (take at o ++ xs) (drop (at + length xs) o) (length ys), drop-drop (length ys) (at + length xs) o, w, append_assoc (take at o) xs ys)
 
 -- ten stores are a row
-pub ten-stores : (l : List ℕ) (n w : ℕ) (r : Fields) → w ≡ n → 10 * (n + 1) ≤ length l
+pub ten_stores : (l : List ℕ) (n w : ℕ) (r : Fields) → w ≡ n → 10 * (n + 1) ≤ length l
     → set (set (set (set (set (set (set (set (set (set l (10 * w) r.op) (10 * w + 1) r.k) (10 * w + 2) (r.a % 256)) (10 * w + 3) (r.a / 256)) (10 * w + 4) (r.b % 256)) (10 * w + 5) (r.b / 256)) (10 * w + 6) (r.c % 256)) (10 * w + 7) (r.c / 256)) (10 * w + 8) (r.d % 256)) (10 * w + 9) (r.d / 256)
-    ≡ put (10 * n) (tenBytes r) l
+    ≡ put (10 * n) (ten_bytes r) l
 unfolding put
-ten-stores l n w r e h =
+ten_stores l n w r e h =
     let nine : 10 * w + 9 ≡ suc (10 * w + 8) = omega arith in
     let fits : 10 * w + 10 ≤ length l = omega arith in
-    simp (nine, unary_clauses) (sets-eq (tenBytes r) l (10 * w) fits)
-    ∙ ap (λ (m : ℕ). take (10 * m) l ++ tenBytes r ++ drop (10 * m + 10) l) e
+    simp (nine, unary_clauses) (sets-eq (ten_bytes r) l (10 * w) fits)
+    ∙ ap (λ (m : ℕ). take (10 * m) l ++ ten_bytes r ++ drop (10 * m + 10) l) e
 
-moved-moved : (s : Next) (r i j r' i' j' : ℕ) → moved s (r + r') (i + i') (j + j') ≡ moved (moved s r i j) r' i' j'
-moved-moved s r i j r' i' j' =
+moved_moved : (s : Next) (r i j r' i' j' : ℕ) → moved s (r + r') (i + i') (j + j') ≡ moved (moved s r i j) r' i' j'
+moved_moved s r i j r' i' j' =
     let a : s.row + (r + r') ≡ s.row + r + r' = omega arith in
     let b : s.array + (i + i') ≡ s.array + i + i' = omega arith in
     let c : s.set + (j + j') ≡ s.set + j + j' = omega arith in
@@ -44,41 +44,41 @@ moved_row s r =
     rw (a, b)
 
 -- the number of the next row, after r rows
-pub row-after : {s t : Next} {r i j : ℕ} {bs o now : List ℕ} → Puts s r i j bs t o now → t.row ≡ s.row + r
-row-after p = rw p.numbers
+pub row_after : {s t : Next} {r i j : ℕ} {bs o now : List ℕ} → Puts s r i j bs t o now → t.row ≡ s.row + r
+row_after p = rw p.numbers
 
 -- rows behind rows
-pub puts-puts : {s t u : Next} {r i j r' i' j' : ℕ} {xs ys o o₁ o₂ : List ℕ} → length xs ≡ 10 * r → 10 * (s.row + r) ≤ length o
+pub puts_puts : {s t u : Next} {r i j r' i' j' : ℕ} {xs ys o o₁ o₂ : List ℕ} → length xs ≡ 10 * r → 10 * (s.row + r) ≤ length o
     → Puts s r i j xs t o o₁ → Puts t r' i' j' ys u o₁ o₂ → Puts s (r + r') (i + i') (j + j') (xs ++ ys) u o o₂
-puts-puts {s} {t} {u} {r} {i} {j} {r'} {i'} {j'} {xs} {ys} {o} {o₁} {o₂} e h p q =
+puts_puts {s} {t} {u} {r} {i} {j} {r'} {i'} {j'} {xs} {ys} {o} {o₁} {o₂} e h p q =
     let at : 10 * (s.row + r) ≡ 10 * s.row + length xs = omega arith in
     let row : 10 * t.row ≡ 10 * s.row + length xs = ap (λ (x : Next). 10 * x.row) p.numbers ∙ at in
     record {
-      numbers = q.numbers ∙ ap (λ (x : Next). moved x r' i' j') p.numbers ∙ sym (moved-moved s r i j r' i' j');
-      bytes = q.bytes ∙ ap₂ (λ (k : ℕ) (l : List ℕ). put k ys l) row p.bytes ∙ put-put (10 * s.row) xs ys o (omega arith);
+      numbers = q.numbers ∙ ap (λ (x : Next). moved x r' i' j') p.numbers ∙ sym (moved_moved s r i j r' i' j');
+      bytes = q.bytes ∙ ap₂ (λ (k : ℕ) (l : List ℕ). put k ys l) row p.bytes ∙ put_put (10 * s.row) xs ys o (omega arith);
     }
 
 -- the same rows, counted or written in another way
-pub puts-as : {s t : Next} {r i j r' i' j' : ℕ} {xs ys o now : List ℕ} → r ≡ r' → i ≡ i' → j ≡ j' → xs ≡ ys → Puts s r i j xs t o now → Puts s r' i' j' ys t o now
-puts-as a b c d p = rw (← a, ← b, ← c, ← d) p
+pub puts_as : {s t : Next} {r i j r' i' j' : ℕ} {xs ys o now : List ℕ} → r ≡ r' → i ≡ i' → j ≡ j' → xs ≡ ys → Puts s r i j xs t o now → Puts s r' i' j' ys t o now
+puts_as a b c d p = rw (← a, ← b, ← c, ← d) p
 
 -- room for fewer rows
-pub space-less : {s : Next} {r : ℕ} {o : List ℕ} (q : ℕ) → Space s r o → q ≤ r → Space s q o
-space-less q h l = record { out = omega (arith, h.out); row = omega (arith, h.row) }
+pub space_less : {s : Next} {r : ℕ} {o : List ℕ} (q : ℕ) → Space s r o → q ≤ r → Space s q o
+space_less q h l = record { out = omega (arith, h.out); row = omega (arith, h.row) }
 
 -- room for what follows r rows
-pub space-after : {s t : Next} {r i j : ℕ} {bs o now : List ℕ} (q : ℕ) (o' : List ℕ) → Puts s r i j bs t o now → Space s (r + q) o → length o' ≡ length o → Space t q o'
-space-after q o' p h e = let n = row-after p in record { out = omega (arith, h.out); row = omega (arith, h.row) }
+pub space_after : {s t : Next} {r i j : ℕ} {bs o now : List ℕ} (q : ℕ) (o' : List ℕ) → Puts s r i j bs t o now → Space s (r + q) o → length o' ≡ length o → Space t q o'
+space_after q o' p h e = let n = row_after p in record { out = omega (arith, h.out); row = omega (arith, h.row) }
 
 -- ---- rows by name
 
-pub one-row : (X : Row) {x : Fields} {s t : Next} {o now : List ℕ} → x ≡ fields_of X → Puts s 1 0 0 (tenBytes x) t o now → Puts s 1 0 0 (bytes_of (X ∷ [])) t o now
+pub one_row : (X : Row) {x : Fields} {s t : Next} {o now : List ℕ} → x ≡ fields_of X → Puts s 1 0 0 (ten_bytes x) t o now → Puts s 1 0 0 (bytes_of (X ∷ [])) t o now
 unfolding bytes_of
-one-row X e p = puts-as refl refl refl (ap tenBytes e) p
+one_row X e p = puts_as refl refl refl (ap ten_bytes e) p
 
-pub rows-rows : {s t u : Next} {r i j r' i' j' : ℕ} (xs ys : List Row) {o o₁ o₂ : List ℕ} → length xs ≡ r → 10 * (s.row + r) ≤ length o
+pub rows_rows : {s t u : Next} {r i j r' i' j' : ℕ} (xs ys : List Row) {o o₁ o₂ : List ℕ} → length xs ≡ r → 10 * (s.row + r) ≤ length o
     → Puts s r i j (bytes_of xs) t o o₁ → Puts t r' i' j' (bytes_of ys) u o₁ o₂ → Puts s (r + r') (i + i') (j + j') (bytes_of (xs ++ ys)) u o o₂
-rows-rows xs ys e h p q = puts-as refl refl refl (sym (bytes-append xs ys)) (puts-puts (bytes-long xs ∙ ap (λ (n : ℕ). 10 * n) e) h p q)
+rows_rows xs ys e h p q = puts_as refl refl refl (sym (bytes_append xs ys)) (puts_puts (bytes_long xs ∙ ap (λ (n : ℕ). 10 * n) e) h p q)
 
 pub puts_none : (s : Next) (o : List ℕ) → Puts s 0 0 0 [] s o o
 unfolding put

@@ -1,6 +1,6 @@
 // One row and its bytes: the rows that stand alone, two rows and their AND, and a row with the AND of the result so far.
 ghost use Rattle.std.specs.Prelude.{◌≡◌, ◌++◌, [], ◌∷◌, ◌+◌, ◌-◌, ◌<◌};
-ghost use Rattle.rows.specs.Row.{plain as plain_of, tenBytes, bytes_of};
+ghost use Rattle.rows.specs.Row.{plain as plain_of, ten_bytes, bytes_of};
 ghost use Rattle.rows.specs.Row.Row.{AND, OR, NOT};
 ghost use Rattle.rowbytes.specs.Written.{Puts, Space};
 
@@ -24,7 +24,7 @@ pub fn plain(op: u8, a: u16, b: u16, c: u16) -> Fields
 // Writes one row.
 pub fn put_row(out: &mut [u8], s: Next, row: Fields) -> Next
     requires { Space s 1 out.old }
-    ensures { Puts s 1 0 0 (tenBytes row) result out.old out.new }
+    ensures { Puts s 1 0 0 (ten_bytes row) result out.old out.new }
 {
     let n = s.row;
     let at = 10 * index(n);
@@ -73,7 +73,7 @@ pub fn put_not(out: &mut [u8], s: Next, x: u16) -> Next
 // Writes two rows and their AND.
 pub fn put_pair(out: &mut [u8], s: Next, x: Fields, y: Fields) -> Next
     requires { Space s 3 out.old }
-    ensures { Puts s 3 0 0 (tenBytes x ++ tenBytes y ++ bytes_of (AND s.row (s.row + 1) ∷ [])) result out.old out.new }
+    ensures { Puts s 3 0 0 (ten_bytes x ++ ten_bytes y ++ bytes_of (AND s.row (s.row + 1) ∷ [])) result out.old out.new }
 {
     let t = put_row(out, s, x);
     let u = put_row(out, t, y);
@@ -83,7 +83,7 @@ pub fn put_pair(out: &mut [u8], s: Next, x: Fields, y: Fields) -> Next
 // Writes a row and the AND of the result so far, the row before it, with it.
 pub fn put_also(out: &mut [u8], s: Next, x: Fields) -> Next
     requires { (0 < s.row) × Space s 2 out.old }
-    ensures { Puts s 2 0 0 (tenBytes x ++ bytes_of (AND (s.row - 1) s.row ∷ [])) result out.old out.new }
+    ensures { Puts s 2 0 0 (ten_bytes x ++ bytes_of (AND (s.row - 1) s.row ∷ [])) result out.old out.new }
 {
     let t = put_row(out, s, x);
     put_and(out, t, s.row - 1, s.row)

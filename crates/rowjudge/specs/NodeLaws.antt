@@ -4,80 +4,80 @@ use Rattle.std.proofs.Common.{ap₂, subst, arith}
 use Rattle.logic.specs.Formula.{Form}
 use Rattle.logic.specs.Formula.Form.{conj, disj, but, neg, sep, sept}
 use Rattle.logic.specs.Holds.{Holds}
-use Rattle.logic.specs.Reflect.{Is, is-iff, is-and, is-or, is-not}
+use Rattle.logic.specs.Reflect.{Is, is_iff, is_and, is_or, is_not}
 use Rattle.logic.specs.Tests.{andb, orb}
-use Rattle.logic.specs.Table.{op_of, operandOf, atomOf, join_of, joinFrom5, tree}
+use Rattle.logic.specs.Table.{op_of, operand_of, atom_of, join_of, join_from5, tree}
 use Rattle.logic.specs.Book.{nodes, Known}
 use Rattle.rows.specs.Assignment.{on}
 use Rattle.rows.specs.Meaning.{Splits, Apart, Same}
-use Rattle.rows.specs.Table.{arraysIn, setsIn}
+use Rattle.rows.specs.Table.{arrays_in, sets_in}
 use Rattle.rows.specs.Condition.{Condition}
-use Rattle.logic.specs.Operators.{each-atom}
+use Rattle.logic.specs.Operators.{each_atom}
 use Rattle.rows.specs.Sound.{flat}
-use Rattle.logic.specs.KnownLaws.{atom-tree, join-tree}
-use Rattle.encodable.specs.EncodableLaws.{flat-atoms}
+use Rattle.logic.specs.KnownLaws.{atom_tree, join_tree}
+use Rattle.encodable.specs.EncodableLaws.{flat_atoms}
 use Rattle.rowjudge.specs.declared.Setting.{Setting}
 use Rattle.rowjudge.specs.declared.Told.{Told}
 use Rattle.rowjudge.specs.declared.Pair.{Pair}
 use Rattle.rowjudge.specs.Setting.{given, Ready, Within, Judged, JudgedBoth, WithinBoth}
 
-atom-arrays : (o x y : ℕ) → 1 ≤ o → o ≤ 4 → (arraysIn (atomOf o x y) ≡ 0) × (setsIn (atomOf o x y) ≡ 0)
-unfolding arraysIn setsIn atomOf
-atom-arrays o x y = each-atom (λ o. (arraysIn (atomOf o x y) ≡ 0) × (setsIn (atomOf o x y) ≡ 0)) (refl, refl) (refl, refl) (refl, refl) (refl, refl) o
+atom_arrays : (o x y : ℕ) → 1 ≤ o → o ≤ 4 → (arrays_in (atom_of o x y) ≡ 0) × (sets_in (atom_of o x y) ≡ 0)
+unfolding arrays_in sets_in atom_of
+atom_arrays o x y = each_atom (λ o. (arrays_in (atom_of o x y) ≡ 0) × (sets_in (atom_of o x y) ≡ 0)) (refl, refl) (refl, refl) (refl, refl) (refl, refl) o
 
 module _ (g : Setting) (q : List ℕ) where
   -- an atom's truth is its rows' condition
-  pub judged-atom : (arrays : List (List ℕ)) → Ready g q arrays → (op x y A S i j : ℕ) (h : Bool) → 1 ≤ op → op ≤ 4
-      → Is h (Holds g.profile g.v g.n (atomOf op x y) (given g q).stack (on ((given g q).array A) ((given g q).set S)))
-      → Judged g q (atomOf op x y) A S i j (record { holds = h; array = i; set = j })
-  judged-atom arrays r op x y A S i j h l m t =
-      let e = flat g.profile g.v g.n (given g q) r.in-range (atomOf op x y) A S i j (flat-atoms op x y l m) in
-      let z = atom-arrays op x y l m in
-      record { holds = is-iff t e.1 e.0; array = omega (arith, z.0); set = omega (arith, z.1) }
+  pub judged_atom : (arrays : List (List ℕ)) → Ready g q arrays → (op x y A S i j : ℕ) (h : Bool) → 1 ≤ op → op ≤ 4
+      → Is h (Holds g.profile g.v g.n (atom_of op x y) (given g q).stack (on ((given g q).array A) ((given g q).set S)))
+      → Judged g q (atom_of op x y) A S i j (record { holds = h; array = i; set = j })
+  judged_atom arrays r op x y A S i j h l m t =
+      let e = flat g.profile g.v g.n (given g q) r.within_range (atom_of op x y) A S i j (flat_atoms op x y l m) in
+      let z = atom_arrays op x y l m in
+      record { holds = is_iff t e.1 e.0; array = omega (arith, z.0); set = omega (arith, z.1) }
 
   module _ (op A S i j : ℕ) (a b : Form) (r : Pair) (h : Bool) where
-    pub judged-conj : op ≡ 5 → JudgedBoth g q a b A S S i j r → h ≡ andb r.first r.second → Judged g q (join_of op a b) A S i j (record { holds = h; array = r.array; set = r.set })
-    unfolding join_of joinFrom5 Condition arraysIn setsIn
-    judged-conj e p d = rw (e, d) (record { holds = is-and r.first r.second p.first p.second; array = p.array; set = p.set })
+    pub judged_conj : op ≡ 5 → JudgedBoth g q a b A S S i j r → h ≡ andb r.first r.second → Judged g q (join_of op a b) A S i j (record { holds = h; array = r.array; set = r.set })
+    unfolding join_of join_from5 Condition arrays_in sets_in
+    judged_conj e p d = rw (e, d) (record { holds = is_and r.first r.second p.first p.second; array = p.array; set = p.set })
 
-    pub judged-disj : op ≡ 6 → JudgedBoth g q a b A S S i j r → h ≡ orb r.first r.second → Judged g q (join_of op a b) A S i j (record { holds = h; array = r.array; set = r.set })
-    unfolding join_of joinFrom5 Condition arraysIn setsIn
-    judged-disj e p d = rw (e, d) (record { holds = is-or r.first r.second p.first p.second; array = p.array; set = p.set })
+    pub judged_disj : op ≡ 6 → JudgedBoth g q a b A S S i j r → h ≡ orb r.first r.second → Judged g q (join_of op a b) A S i j (record { holds = h; array = r.array; set = r.set })
+    unfolding join_of join_from5 Condition arrays_in sets_in
+    judged_disj e p d = rw (e, d) (record { holds = is_or r.first r.second p.first p.second; array = p.array; set = p.set })
 
-    pub judged-but : op ≡ 7 → JudgedBoth g q a b A S S i j r → h ≡ andb r.first (not r.second) → Judged g q (join_of op a b) A S i j (record { holds = h; array = r.array; set = r.set })
-    unfolding join_of joinFrom5 Condition arraysIn setsIn
-    judged-but e p d = rw (e, d) (record { holds = is-and r.first (not r.second) p.first (is-not r.second p.second); array = p.array; set = p.set })
+    pub judged_but : op ≡ 7 → JudgedBoth g q a b A S S i j r → h ≡ andb r.first (not r.second) → Judged g q (join_of op a b) A S i j (record { holds = h; array = r.array; set = r.set })
+    unfolding join_of join_from5 Condition arrays_in sets_in
+    judged_but e p d = rw (e, d) (record { holds = is_and r.first (not r.second) p.first (is_not r.second p.second); array = p.array; set = p.set })
 
-    pub judged-sep : (h₁ h₂ s₁ s₂ : Bool) → op ≡ 9 → JudgedBoth g q a b A j (j + 1) i (j + 2) r → h₁ ≡ andb r.first r.second → h₂ ≡ andb h₁ s₁ → h ≡ andb h₂ s₂
+    pub judged_sep : (h₁ h₂ s₁ s₂ : Bool) → op ≡ 9 → JudgedBoth g q a b A j (j + 1) i (j + 2) r → h₁ ≡ andb r.first r.second → h₂ ≡ andb h₁ s₁ → h ≡ andb h₂ s₂
         → Is s₁ (Splits ((given g q).set S) ((given g q).set j) ((given g q).set (j + 1))) → Is s₂ (Apart g.profile g.v (given g q).stack ((given g q).array A) ((given g q).set j) ((given g q).set (j + 1)))
         → Judged g q (join_of op a b) A S i j (record { holds = h; array = r.array; set = r.set })
-    unfolding join_of joinFrom5 Condition arraysIn setsIn
-    judged-sep h₁ h₂ s₁ s₂ e p d₁ d₂ d x y =
+    unfolding join_of join_from5 Condition arrays_in sets_in
+    judged_sep h₁ h₂ s₁ s₂ e p d₁ d₂ d x y =
         rw (e, d, d₂, d₁) (record {
-          holds = is-and (andb (andb r.first r.second) s₁) s₂ (is-and (andb r.first r.second) s₁ (is-and r.first r.second p.first p.second) x) y;
+          holds = is_and (andb (andb r.first r.second) s₁) s₂ (is_and (andb r.first r.second) s₁ (is_and r.first r.second p.first p.second) x) y;
           array = p.array;
           set = omega (arith, p.set);
         })
 
-    pub judged-sept : (h₁ h₂ h₃ s₁ s₂ s₃ : Bool) → op ≡ 10 → JudgedBoth g q a b i j (j + 1) (i + 1) (j + 2) r → h₁ ≡ andb r.first r.second → h₂ ≡ andb h₁ s₁ → h₃ ≡ andb h₂ s₂ → h ≡ andb h₃ s₃
+    pub judged_sept : (h₁ h₂ h₃ s₁ s₂ s₃ : Bool) → op ≡ 10 → JudgedBoth g q a b i j (j + 1) (i + 1) (j + 2) r → h₁ ≡ andb r.first r.second → h₂ ≡ andb h₁ s₁ → h₃ ≡ andb h₂ s₂ → h ≡ andb h₃ s₃
         → Is s₁ (Splits ((given g q).set (j + 1)) ((given g q).set j) ((given g q).set S)) → Is s₂ (Apart g.profile g.v (given g q).stack ((given g q).array i) ((given g q).set j) ((given g q).set S))
         → Is s₃ (Same ((given g q).array A) ((given g q).array i) ((given g q).set S)) → Judged g q (join_of op a b) A S i j (record { holds = h; array = r.array; set = r.set })
-    unfolding join_of joinFrom5 Condition arraysIn setsIn
-    judged-sept h₁ h₂ h₃ s₁ s₂ s₃ e p d₁ d₂ d₃ d x y z =
+    unfolding join_of join_from5 Condition arrays_in sets_in
+    judged_sept h₁ h₂ h₃ s₁ s₂ s₃ e p d₁ d₂ d₃ d x y z =
         rw (e, d, d₃, d₂, d₁) (record {
-          holds = is-and (andb (andb (andb r.first r.second) s₁) s₂) s₃ (is-and (andb (andb r.first r.second) s₁) s₂ (is-and (andb r.first r.second) s₁ (is-and r.first r.second p.first p.second) x) y) z;
+          holds = is_and (andb (andb (andb r.first r.second) s₁) s₂) s₃ (is_and (andb (andb r.first r.second) s₁) s₂ (is_and (andb r.first r.second) s₁ (is_and r.first r.second p.first p.second) x) y) z;
           array = omega (arith, p.array);
           set = omega (arith, p.set);
         })
 
-  pub judged-neg : (op A S i j : ℕ) (a b : Form) (r : Told) → op ≡ 8 → Judged g q a A S i j r → Judged g q (join_of op a b) A S i j (record { holds = not r.holds; array = r.array; set = r.set })
-  unfolding join_of joinFrom5 Condition arraysIn setsIn
-  judged-neg op A S i j a b r e p = rw e (record { holds = is-not r.holds p.holds; array = p.array; set = p.set })
+  pub judged_neg : (op A S i j : ℕ) (a b : Form) (r : Told) → op ≡ 8 → Judged g q a A S i j r → Judged g q (join_of op a b) A S i j (record { holds = not r.holds; array = r.array; set = r.set })
+  unfolding join_of join_from5 Condition arrays_in sets_in
+  judged_neg op A S i j a b r e p = rw e (record { holds = is_not r.holds p.holds; array = p.array; set = p.set })
 
-  pub judged-both : (a b : Form) (A S T i j : ℕ) (u w : Told) → Judged g q a A S i j u → Judged g q b A T u.array u.set w
+  pub judged_both : (a b : Form) (A S T i j : ℕ) (u w : Told) → Judged g q a A S i j u → Judged g q b A T u.array u.set w
       → JudgedBoth g q a b A S T i j (record { first = u.holds; second = w.holds; array = w.array; set = w.set })
-  judged-both a b A S T i j u w p r =
-      let e : Condition g.profile g.v g.n (given g q) b A T u.array u.set ≡ Condition g.profile g.v g.n (given g q) b A T (i + arraysIn a) (j + setsIn a) = ap₂ (Condition g.profile g.v g.n (given g q) b A T) p.array p.set in
+  judged_both a b A S T i j u w p r =
+      let e : Condition g.profile g.v g.n (given g q) b A T u.array u.set ≡ Condition g.profile g.v g.n (given g q) b A T (i + arrays_in a) (j + sets_in a) = ap₂ (Condition g.profile g.v g.n (given g q) b A T) p.array p.set in
       record { first = p.holds; second = subst (Is w.holds) e r.holds; array = omega (arith, p.array, r.array); set = omega (arith, p.set, r.set) }
 
 -- ---- there are arrays and sets enough
@@ -86,46 +86,46 @@ module _ (g : Setting) (a b : Form) (A S T i j : ℕ) where
   pub within_first : WithinBoth g a b A S T i j → Within g a A S i j
   within_first w = record { array = w.array; set = w.first; arrays = omega (arith, w.arrays); sets = omega (arith, w.sets) }
 
-  pub within-second : (q : List ℕ) (u : Told) → WithinBoth g a b A S T i j → Judged g q a A S i j u → Within g b A T u.array u.set
-  within-second q u w p = record { array = omega (arith, w.array, p.array); set = omega (arith, w.second, p.set); arrays = omega (arith, w.arrays, p.array); sets = omega (arith, w.sets, p.set) }
+  pub within_second : (q : List ℕ) (u : Told) → WithinBoth g a b A S T i j → Judged g q a A S i j u → Within g b A T u.array u.set
+  within_second q u w p = record { array = omega (arith, w.array, p.array); set = omega (arith, w.second, p.set); arrays = omega (arith, w.arrays, p.array); sets = omega (arith, w.sets, p.set) }
 
 module _ (g : Setting) (op : ℕ) (a b : Form) (A S i j : ℕ) (w : Within g (join_of op a b) A S i j) where
-  pub within-conj : op ≡ 5 → WithinBoth g a b A S S i j
-  unfolding join_of joinFrom5 arraysIn setsIn
-  within-conj e = let v : Within g (conj a b) A S i j = rw e at w in record { array = v.array; first = v.set; second = v.set; arrays = v.arrays; sets = v.sets }
+  pub within_conj : op ≡ 5 → WithinBoth g a b A S S i j
+  unfolding join_of join_from5 arrays_in sets_in
+  within_conj e = let v : Within g (conj a b) A S i j = rw e at w in record { array = v.array; first = v.set; second = v.set; arrays = v.arrays; sets = v.sets }
 
-  pub within-disj : op ≡ 6 → WithinBoth g a b A S S i j
-  unfolding join_of joinFrom5 arraysIn setsIn
-  within-disj e = let v : Within g (disj a b) A S i j = rw e at w in record { array = v.array; first = v.set; second = v.set; arrays = v.arrays; sets = v.sets }
+  pub within_disj : op ≡ 6 → WithinBoth g a b A S S i j
+  unfolding join_of join_from5 arrays_in sets_in
+  within_disj e = let v : Within g (disj a b) A S i j = rw e at w in record { array = v.array; first = v.set; second = v.set; arrays = v.arrays; sets = v.sets }
 
-  pub within-but : op ≡ 7 → WithinBoth g a b A S S i j
-  unfolding join_of joinFrom5 arraysIn setsIn
-  within-but e = let v : Within g (but a b) A S i j = rw e at w in record { array = v.array; first = v.set; second = v.set; arrays = v.arrays; sets = v.sets }
+  pub within_but : op ≡ 7 → WithinBoth g a b A S S i j
+  unfolding join_of join_from5 arrays_in sets_in
+  within_but e = let v : Within g (but a b) A S i j = rw e at w in record { array = v.array; first = v.set; second = v.set; arrays = v.arrays; sets = v.sets }
 
-  pub within-neg : op ≡ 8 → Within g a A S i j
-  unfolding join_of joinFrom5 arraysIn setsIn
-  within-neg e = let v : Within g (neg a) A S i j = rw e at w in record { array = v.array; set = v.set; arrays = v.arrays; sets = v.sets }
+  pub within_neg : op ≡ 8 → Within g a A S i j
+  unfolding join_of join_from5 arrays_in sets_in
+  within_neg e = let v : Within g (neg a) A S i j = rw e at w in record { array = v.array; set = v.set; arrays = v.arrays; sets = v.sets }
 
-  pub within-sep : op ≡ 9 → WithinBoth g a b A j (j + 1) i (j + 2) × (j + 2 ≤ g.sets)
-  unfolding join_of joinFrom5 arraysIn setsIn
-  within-sep e =
+  pub within_sep : op ≡ 9 → WithinBoth g a b A j (j + 1) i (j + 2) × (j + 2 ≤ g.sets)
+  unfolding join_of join_from5 arrays_in sets_in
+  within_sep e =
       let v : Within g (sep a b) A S i j = rw e at w in
       (record { array = v.array; first = omega arith; second = omega arith; arrays = v.arrays; sets = omega (arith, v.sets) }, omega (arith, v.sets))
 
-  pub within-sept : op ≡ 10 → WithinBoth g a b i j (j + 1) (i + 1) (j + 2) × (j + 2 ≤ g.sets) × (i + 1 ≤ g.arrays)
-  unfolding join_of joinFrom5 arraysIn setsIn
-  within-sept e =
+  pub within_sept : op ≡ 10 → WithinBoth g a b i j (j + 1) (i + 1) (j + 2) × (j + 2 ≤ g.sets) × (i + 1 ≤ g.arrays)
+  unfolding join_of join_from5 arrays_in sets_in
+  within_sept e =
       let v : Within g (sept a b) A S i j = rw e at w in
       (record { array = omega arith; first = omega arith; second = omega arith; arrays = omega (arith, v.arrays); sets = omega (arith, v.sets) }, omega (arith, v.sets), omega (arith, v.arrays))
 
 -- ---- a node's
 
-module _ (g : Setting) (q f : List ℕ) (w : Known g.v f) (k x y : ℕ) (h : k < nodes f) (ex : x ≡ operandOf f k 0) (ey : y ≡ operandOf f k 1) (A S i j : ℕ) where
-  pub within-join : 5 ≤ op_of f k → Within g (tree f k) A S i j → Within g (join_of (op_of f k) (tree f x) (tree f y)) A S i j
-  within-join l r = rw (join-tree g.v f w k x y h ex ey l) at r
+module _ (g : Setting) (q f : List ℕ) (w : Known g.v f) (k x y : ℕ) (h : k < nodes f) (ex : x ≡ operand_of f k 0) (ey : y ≡ operand_of f k 1) (A S i j : ℕ) where
+  pub within_join : 5 ≤ op_of f k → Within g (tree f k) A S i j → Within g (join_of (op_of f k) (tree f x) (tree f y)) A S i j
+  within_join l r = rw (join_tree g.v f w k x y h ex ey l) at r
 
-  pub judged-leaf : (r : Told) → op_of f k ≤ 4 → Judged g q (atomOf (op_of f k) x y) A S i j r → Judged g q (tree f k) A S i j r
-  judged-leaf r l p = rw (atom-tree g.v f w k x y h ex ey l) p
+  pub judged_leaf : (r : Told) → op_of f k ≤ 4 → Judged g q (atom_of (op_of f k) x y) A S i j r → Judged g q (tree f k) A S i j r
+  judged_leaf r l p = rw (atom_tree g.v f w k x y h ex ey l) p
 
-  pub judged-join : (r : Told) → 5 ≤ op_of f k → Judged g q (join_of (op_of f k) (tree f x) (tree f y)) A S i j r → Judged g q (tree f k) A S i j r
-  judged-join r l p = rw (join-tree g.v f w k x y h ex ey l) p
+  pub judged_join : (r : Told) → 5 ≤ op_of f k → Judged g q (join_of (op_of f k) (tree f x) (tree f y)) A S i j r → Judged g q (tree f k) A S i j r
+  judged_join r l p = rw (join_tree g.v f w k x y h ex ey l) p

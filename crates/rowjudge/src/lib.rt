@@ -1,15 +1,15 @@
 // The judge of rows: whether the last row of a formula's rows holds under an assignment, without a row being written.
 ghost use Rattle.std.specs.Prelude.{◌≡◌, [], ℕ, ◌+◌, ◌*◌, ◌^◌, ◌≤◌, ◌<◌, length, get_or};
 ghost use Rattle.logic.specs.Reflect.{Is};
-ghost use Rattle.logic.specs.Tests.{andb, orb, inPart};
+ghost use Rattle.logic.specs.Tests.{andb, orb, in_part};
 ghost use Rattle.logic.specs.Holds.{Holds};
-ghost use Rattle.logic.specs.Table.{tree, atomOf, join_of};
+ghost use Rattle.logic.specs.Table.{tree, atom_of, join_of};
 ghost use Rattle.logic.specs.Book.{most, nodes, Known};
 ghost use Rattle.cells.specs.Cells.{word, cells};
 ghost use Rattle.rows.specs.Assignment.{on};
 ghost use Rattle.rows.specs.Meaning.{Splits, Apart, Same, Short};
-ghost use Rattle.rows.specs.Bounds.{mostArrays};
-ghost use Rattle.arrays.specs.Unpacked.{valuesIn};
+ghost use Rattle.rows.specs.Bounds.{most_arrays};
+ghost use Rattle.arrays.specs.Unpacked.{values_in};
 ghost use Rattle.rowjudge.specs.Setting.{given, Ready, Within, Judged, JudgedBoth, WithinBoth};
 
 use cells::{cell, is_empty, is_list, is_points, met, spread};
@@ -71,8 +71,8 @@ fn byte_at(q: &[u8], i: usize) -> u64
 
 // Array i on the set m, packed.
 fn heap_on(arrays: &Arrays, i: usize, m: u64, n: u64) -> u64
-    requires { (i < mostArrays) × (n ≤ most) × (m < 2 ^ n) × ((ℓ : ℕ) → valuesIn arrays.now i ℓ ≤ n) × (length (get_or arrays.now i []) ≡ most) }
-    ensures { (cells result ≡ on (valuesIn arrays.now i) (inPart m)) × (result < word) }
+    requires { (i < most_arrays) × (n ≤ most) × (m < 2 ^ n) × ((ℓ : ℕ) → values_in arrays.now i ℓ ≤ n) × (length (get_or arrays.now i []) ≡ most) }
+    ensures { (cells result ≡ on (values_in arrays.now i) (in_part m)) × (result < word) }
 {
     let row = arrays[i];
     packed(&row, 0, n as usize, true) & spread(m)
@@ -89,7 +89,7 @@ fn heap_at(q: &[u8], arrays: &Arrays, g: Setting, a: usize, s: usize) -> u64
 // Whether an atom over the variables x and y holds on array a and set s.
 fn atom(q: &[u8], arrays: &Arrays, g: Setting, op: u8, x: u64, y: u64, a: usize, s: usize) -> bool
     requires { Ready g q.now arrays.now × (a < g.arrays) × (s < g.sets) × (1 ≤ op) × (op ≤ 4) × (x ≤ g.v) × (y ≤ g.v) }
-    ensures { Is result (Holds g.profile g.v g.n (atomOf op x y) (given g q.now).stack (on ((given g q.now).array a) ((given g q.now).set s))) }
+    ensures { Is result (Holds g.profile g.v g.n (atom_of op x y) (given g q.now).stack (on ((given g q.now).array a) ((given g q.now).set s))) }
 {
     let w = heap_at(q, arrays, g, a, s);
     let b = cell(g.stack, x);

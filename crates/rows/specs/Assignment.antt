@@ -30,5 +30,5 @@ unfoldable pub on : Map → Set → Map
 on A S ℓ = pick (S ℓ) (suc (A ℓ)) 0
 
 -- "Its model is the stack and array 0 on set 0."
-abbrev pub modelHeap : Assignment → Map
-modelHeap ν = on (ν.array 0) (ν.set 0)
+abbrev pub model_heap : Assignment → Map
+model_heap ν = on (ν.array 0) (ν.set 0)

@@ -14,7 +14,7 @@ NoMember S = (ℓ : ℕ) → ¬ Member S ℓ
 
 -- "S is just x's location, not nil"; a is x's location
 pub record Just (S : Set) (a : ℕ) : Type 0 where
-  pub not-nil : ¬ (a ≡ 0)
+  pub not_nil : ¬ (a ≡ 0)
   pub just : (ℓ : ℕ) → Member S ℓ ↔ (ℓ ≡ a)
 
 -- "x is not nil and A at x is y"; a and b are the locations of x and y
@@ -30,7 +30,7 @@ pub record Links (A : Map) (S : Set) (a b k : ℕ) : Type 0 where
   pub link : (i : ℕ) → i < k → A (at i) ≡ at (suc i)
   pub different : (i j : ℕ) → i < j → j ≤ k → ¬ (at i ≡ at j)
   pub members : (ℓ : ℕ) → Member S ℓ ↔ ((i : ℕ) × (i < k) × (at i ≡ ℓ))
-  pub not-nil : (i : ℕ) → i < k → ¬ (at i ≡ 0)
+  pub not_nil : (i : ℕ) → i < k → ¬ (at i ≡ 0)
 
 -- "S1, S2 have no common member and make S"
 pub record Splits (S S1 S2 : Set) : Type 0 where
@@ -57,9 +57,9 @@ Same A B S = (ℓ : ℕ) → Member S ℓ → A ℓ ≡ B ℓ
 abbrev pub Short : Map → Set → ℕ → Type 0
 Short A S k = NoLongPath k (on A S)
 
-abbrev pub pickType : Bool → Type 0 → Type 0 → Type 0
-pickType true P Q = P
-pickType false P Q = Q
+abbrev pub pick_type : Bool → Type 0 → Type 0 → Type 0
+pick_type true P Q = P
+pick_type false P Q = Q
 
 module _ (v : ℕ) (ν : Assignment) where
   -- document 01's table of rows, and document 02's LONG; T r says that row r holds
@@ -83,7 +83,7 @@ module _ (v : ℕ) (ν : Assignment) where
   HoldsBefore rs zero k = ⊥
   HoldsBefore rs (suc d) k =
       let earlier = HoldsBefore rs d k in
-      pickType (eqb k d) (Means (HoldsBefore rs d) (get_or rs d (EQ 0 0))) earlier
+      pick_type (eqb k d) (Means (HoldsBefore rs d) (get_or rs d (EQ 0 0))) earlier
 
   abbrev pub RowHolds : List Row → ℕ → Type 0
   RowHolds rs k = HoldsBefore rs (suc k) k

@@ -35,10 +35,10 @@ fields_of (SAME A B S) = plain 12 A B S
 fields_of (LONG A S k) = record { op = 13; k = k; a = A; b = S; c = 0; d = 0 }
 
 -- "A row has ten bytes: operator, k, four two-byte operands, low first"
-abbrev pub tenBytes : Fields → List ℕ
-tenBytes r =
+abbrev pub ten_bytes : Fields → List ℕ
+ten_bytes r =
     r.op ∷ r.k ∷ r.a % 256 ∷ r.a / 256 ∷ r.b % 256 ∷ r.b / 256 ∷ r.c % 256 ∷ r.c / 256 ∷ r.d % 256 ∷ r.d / 256 ∷ []
 
 unfoldable pub bytes_of : List Row → List ℕ
 bytes_of [] = []
-bytes_of (r ∷ rs) = tenBytes (fields_of r) ++ bytes_of rs
+bytes_of (r ∷ rs) = ten_bytes (fields_of r) ++ bytes_of rs

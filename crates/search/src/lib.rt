@@ -1,6 +1,6 @@
 // The search of a book for the first model that fits, within a budget. Any bytes at all are searched.
 ghost use Rattle.std.specs.Prelude.{◌+◌, ◌≤◌};
-ghost use Rattle.logic.specs.Numbers.{output-length};
+ghost use Rattle.logic.specs.Numbers.{output_length};
 ghost use Rattle.logic.specs.Checks.{Answers, check, done};
 ghost use Rattle.logic.specs.CheckLaws.{Yes};
 ghost use Rattle.logic.specs.Table.{tree};
@@ -28,7 +28,7 @@ fn hunt_in(profile: Profile, f: &[u8], v: u64, n: u64, p: u64, budget: u64) -> E
 // Whether an output of that many bytes has room for a model.
 fn room(v: u64, n: u64, space: usize) -> Answer
     requires { (v ≤ most) × (n ≤ most) }
-    ensures { Answers (check (v + n ≤ space) output-length 0 done) Yes result }
+    ensures { Answers (check (v + n ≤ space) output_length 0 done) Yes result }
 {
     if (space as u64) < v + n {
         return answer_of(logic::OUTPUT_LENGTH, 0);

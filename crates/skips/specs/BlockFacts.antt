@@ -8,41 +8,41 @@ use Rattle.logic.specs.declared.Profile.{Profile}
 use Rattle.logic.specs.Heap.{Map, Heap, Named}
 use Rattle.logic.specs.Formula.{Form}
 use Rattle.logic.specs.Paths.{Path}
-use Rattle.logic.specs.Tests.{pick, heapOf}
+use Rattle.logic.specs.Tests.{pick, heap_of}
 use Rattle.logic.specs.Digits.{num_of}
-use Rattle.logic.specs.Agree.{heapOf-heap}
+use Rattle.logic.specs.Agree.{heap_of_heap}
 use Rattle.logic.specs.Candidates.{total, stack_of}
 use Rattle.logic.specs.Search.{CandidateFits}
-use Rattle.laws.specs.Renumbering.{newDigit, newHeap}
-use Rattle.laws.specs.RenumberingLaws.{new-heap}
-use Rattle.laws.specs.Exchange.{exchange, exchangedHeap}
-use Rattle.laws.specs.ExchangeLaws.{exchange-first, exchange-second, exchange-other, exchange-renumbering}
+use Rattle.laws.specs.Renumbering.{renumbered_digit, new_heap}
+use Rattle.laws.specs.RenumberingLaws.{new_heap_is}
+use Rattle.laws.specs.Exchange.{exchange, exchanged_heap}
+use Rattle.laws.specs.ExchangeLaws.{exchange_first, exchange_second, exchange_other, exchange_renumbering}
 use Rattle.skips.specs.Counts.{incoming, outgoing, above}
-use Rattle.skips.specs.CountLaws.{incoming-same, incoming-sub, out_none, out-le, out-same, above-sub, above_same}
+use Rattle.skips.specs.CountLaws.{incoming_same, incoming_sub, out_none, out_le, out_same, above_sub, above_same}
 use Rattle.skips.specs.Facts.{Digits, Caps, Hopeless}
-use Rattle.skips.specs.LowestLaws.{labels-in-order, heap-not-lower}
-use Rattle.skips.specs.Order.{Lower, lt-lower}
-use Rattle.skips.specs.Blocks.{weight, Skippable, outMost}
-use Rattle.skips.specs.BlockLaws.{weight-first, block-heap, block-whole-stack, block-stack}
+use Rattle.skips.specs.LowestLaws.{labels_in_order, heap_not_lower}
+use Rattle.skips.specs.Order.{Lower, lt_lower}
+use Rattle.skips.specs.Blocks.{weight, Skippable, most_outgoing}
+use Rattle.skips.specs.BlockLaws.{weight_first, block_heap, block_whole_stack, block_stack}
 
-out-most : (j n : ℕ) (g h : Map) (ℓ : ℕ) → Heap n g → ((i : ℕ) → j < i → g i ≡ h i) → outgoing g ℓ ≤ outMost j h ℓ
-unfolding outMost
-out-most j n g h ℓ k e = go (dec_lt j ℓ) (ℕ_discrete ℓ 0)
+out_most_is : (j n : ℕ) (g h : Map) (ℓ : ℕ) → Heap n g → ((i : ℕ) → j < i → g i ≡ h i) → outgoing g ℓ ≤ most_outgoing j h ℓ
+unfolding most_outgoing
+out_most_is j n g h ℓ k e = go (dec_lt j ℓ) (ℕ_discrete ℓ 0)
   where
     go : Dec (j < ℓ) → Dec (ℓ ≡ 0) → outgoing g ℓ ≤ pick (ltb j ℓ) (outgoing h ℓ) (pick (eqb ℓ 0) 0 1)
-    go (yes l) w = rw (lt-ltb j ℓ l) (omega (arith, out-same g h ℓ (e ℓ l)))
+    go (yes l) w = rw (lt-ltb j ℓ l) (omega (arith, out_same g h ℓ (e ℓ l)))
     go (no l) (yes z) = rw (le-ltb j ℓ (omega arith), eq-eqb ℓ 0 z) (omega (arith, out_none g ℓ (ap g z ∙ k.nil)))
-    go (no l) (no z) = rw (le-ltb j ℓ (omega arith), ne_eqb ℓ 0 z) (out-le g ℓ)
+    go (no l) (no z) = rw (le-ltb j ℓ (omega arith), ne_eqb ℓ 0 z) (out_le g ℓ)
 
 -- a pair of neighbours keeps the places above r above j
-pub pair-above : (j a r : ℕ) → j ≤ r → (j ≡ a → suc a ≤ r) → (ℓ : ℕ) → r < ℓ → j < exchange a (suc a) ℓ
-pair-above j a r l f ℓ m = go (ℕ_discrete ℓ a) (ℕ_discrete ℓ (suc a)) (ℕ_discrete j a)
+pub pair_above : (j a r : ℕ) → j ≤ r → (j ≡ a → suc a ≤ r) → (ℓ : ℕ) → r < ℓ → j < exchange a (suc a) ℓ
+pair_above j a r l f ℓ m = go (ℕ_discrete ℓ a) (ℕ_discrete ℓ (suc a)) (ℕ_discrete j a)
   where
     go : Dec (ℓ ≡ a) → Dec (ℓ ≡ suc a) → Dec (j ≡ a) → j < exchange a (suc a) ℓ
-    go (yes e) w u = omega (arith, exchange-first a (suc a) ℓ e)
+    go (yes e) w u = omega (arith, exchange_first a (suc a) ℓ e)
     go (no e) (yes w) (yes u) = absurd (omega (arith, f u))
-    go (no e) (yes w) (no u) = omega (arith, exchange-second a (suc a) ℓ w)
-    go (no e) (no w) u = omega (arith, exchange-other a (suc a) ℓ e w)
+    go (no e) (yes w) (no u) = omega (arith, exchange_second a (suc a) ℓ w)
+    go (no e) (no w) u = omega (arith, exchange_other a (suc a) ℓ e w)
 
 module _ (π : Profile) (v n p : ℕ) (F : Form) (i : ℕ) where
   -- no candidate of the block of i that has j digits free is the lowest that fits
@@ -52,69 +52,69 @@ module _ (π : Profile) (v n p : ℕ) (F : Form) (i : ℕ) where
   -- the candidate was judged
   pub skip_tried : ¬ CandidateFits π v n p F i → SkippableAt 0
   skip_tried f c e q =
-      let z : c ≡ i = sym (div-one c) ∙ ap (λ (w : ℕ). c / w) (sym (weight-first n)) ∙ e ∙ ap (λ (w : ℕ). i / w) (weight-first n) ∙ div-one i in
+      let z : c ≡ i = sym (div-one c) ∙ ap (λ (w : ℕ). c / w) (sym (weight_first n)) ∙ e ∙ ap (λ (w : ℕ). i / w) (weight_first n) ∙ div-one i in
       f (subst (CandidateFits π v n p F) z q.fits)
 
   -- ---- the stack
 
   -- variable x + 1 has a location over 1 + the greatest of the variables above
-  pub skip-label : (x top : ℕ) → x < v → ((y : ℕ) → suc x < y → y ≤ v → stack_of v n i y ≤ top) → suc top < stack_of v n i (suc x) → SkippableAt (n + x)
-  skip-label x top l m f c e q =
-      let same = block-stack n i c v x e in
-      let b : stack_of v n c (suc x) ≤ suc top = labels-in-order π v n p F c q x top l (λ y u w. subst (λ (z : ℕ). z ≤ top) (sym (same y (omega arith))) (m y u w)) in
+  pub skip_label : (x top : ℕ) → x < v → ((y : ℕ) → suc x < y → y ≤ v → stack_of v n i y ≤ top) → suc top < stack_of v n i (suc x) → SkippableAt (n + x)
+  skip_label x top l m f c e q =
+      let same = block_stack n i c v x e in
+      let b : stack_of v n c (suc x) ≤ suc top = labels_in_order π v n p F c q x top l (λ y u w. subst (λ (z : ℕ). z ≤ top) (sym (same y (omega arith))) (m y u w)) in
       absurd (omega (arith, b, same (suc x) (omega arith)))
 
   -- the formula holds on no heap
-  pub skip-hopeless : Hopeless π v n F (stack_of v n i) → SkippableAt n
+  pub skip_hopeless : Hopeless π v n F (stack_of v n i) → SkippableAt n
   unfolding Hopeless
-  skip-hopeless none c e q =
-      let there = subst (Hopeless π v n F) (sym (block-whole-stack n i c v n (omega arith) e)) none in
-      there (heapOf n c) (heapOf-heap n c) q.fits.0
+  skip_hopeless none c e q =
+      let there = subst (Hopeless π v n F) (sym (block_whole_stack n i c v n (omega arith) e)) none in
+      there (heap_of n c) (heap_of_heap n c) q.fits.0
 
   -- ---- the heap, of which the locations above j are known
 
   module _ (j : ℕ) (low : j ≤ n) where
     -- the digit at ℓ may not stand there
-    pub skip-digit : (ℓ : ℕ) → j < ℓ → (P : ℕ → Type 0) → Digits π v n F (stack_of v n i) ℓ P → ¬ P (heapOf n i ℓ) → SkippableAt j
+    pub skip_digit : (ℓ : ℕ) → j < ℓ → (P : ℕ → Type 0) → Digits π v n F (stack_of v n i) ℓ P → ¬ P (heap_of n i ℓ) → SkippableAt j
     unfolding Digits
-    skip-digit ℓ l P f none c e q =
-        let fits = subst (λ (s : Map). Digits π v n F s ℓ P) (sym (block-whole-stack n i c v j low e)) f in
-        none (subst P (block-heap n i c j low e ℓ l) (fits (heapOf n c) (heapOf-heap n c) q.fits.0))
+    skip_digit ℓ l P f none c e q =
+        let fits = subst (λ (s : Map). Digits π v n F s ℓ P) (sym (block_whole_stack n i c v j low e)) f in
+        none (subst P (block_heap n i c j low e ℓ l) (fits (heap_of n c) (heap_of_heap n c) q.fits.0))
 
     -- more cells above j point to ℓ than may
-    pub skip-crowded : (ℓ k : ℕ) → Caps π v n F (stack_of v n i) ℓ k → outMost j (heapOf n i) ℓ + k < incoming n (above (suc j) (heapOf n i)) ℓ + 1 → SkippableAt j
+    pub skip_crowded : (ℓ k : ℕ) → Caps π v n F (stack_of v n i) ℓ k → most_outgoing j (heap_of n i) ℓ + k < incoming n (above (suc j) (heap_of n i)) ℓ + 1 → SkippableAt j
     unfolding Caps
-    skip-crowded ℓ k f m c e q =
-        let g = heapOf n c in
-        let h = heapOf n i in
-        let same : (x : ℕ) → j < x → g x ≡ h x = block-heap n i c j low e in
-        let fits = subst (λ (s : Map). Caps π v n F s ℓ k) (sym (block-whole-stack n i c v j low e)) f in
-        let a : incoming n (above (suc j) g) ℓ ≤ incoming n g ℓ = incoming-sub ℓ n (above (suc j) g) g (above-sub (suc j) g) in
-        let b : incoming n (above (suc j) g) ℓ ≡ incoming n (above (suc j) h) ℓ = incoming-same ℓ n (above (suc j) g) (above (suc j) h) (above_same (suc j) g h same) in
-        absurd (omega (arith, m, a, b, out-most j n g h ℓ (heapOf-heap n c) same, fits g (heapOf-heap n c) q.fits.0))
+    skip_crowded ℓ k f m c e q =
+        let g = heap_of n c in
+        let h = heap_of n i in
+        let same : (x : ℕ) → j < x → g x ≡ h x = block_heap n i c j low e in
+        let fits = subst (λ (s : Map). Caps π v n F s ℓ k) (sym (block_whole_stack n i c v j low e)) f in
+        let a : incoming n (above (suc j) g) ℓ ≤ incoming n g ℓ = incoming_sub ℓ n (above (suc j) g) g (above_sub (suc j) g) in
+        let b : incoming n (above (suc j) g) ℓ ≡ incoming n (above (suc j) h) ℓ = incoming_same ℓ n (above (suc j) g) (above (suc j) h) (above_same (suc j) g h same) in
+        absurd (omega (arith, m, a, b, out_most_is j n g h ℓ (heap_of_heap n c) same, fits g (heap_of_heap n c) q.fits.0))
 
     -- the cells above j make a path of more than p links
-    pub skip-long : (k : ℕ) → p < k → Path k (above (suc j) (heapOf n i)) → SkippableAt j
+    pub skip_long : (k : ℕ) → p < k → Path k (above (suc j) (heap_of n i)) → SkippableAt j
     unfolding above
-    skip-long k l q c e r =
+    skip_long k l q c e r =
         r.fits.1 k l (record { at = q.at; link = λ x m. link' (q.at x) (q.at (suc x)) (dec_lt (q.at x) (suc j)) (q.link x m); different = q.different })
       where
-        link' : (x y : ℕ) → Dec (x < suc j) → pick (ltb x (suc j)) 0 (heapOf n i x) ≡ suc y → heapOf n c x ≡ suc y
-        link' x y (yes u) w = let z : 0 ≡ suc y = sym (ap (λ (b : Bool). pick b 0 (heapOf n i x)) (lt-ltb x (suc j) u)) ∙ w in absurd (omega arith)
+        link' : (x y : ℕ) → Dec (x < suc j) → pick (ltb x (suc j)) 0 (heap_of n i x) ≡ suc y → heap_of n c x ≡ suc y
+        link' x y (yes u) w = let z : 0 ≡ suc y = sym (ap (λ (b : Bool). pick b 0 (heap_of n i x)) (lt-ltb x (suc j) u)) ∙ w in absurd (omega arith)
         link' x y (no u) w =
-            block-heap n i c j low e x (omega arith) ∙ sym (ap (λ (b : Bool). pick b 0 (heapOf n i x)) (le-ltb x (suc j) (omega arith))) ∙ w
+            block_heap n i c j low e x (omega arith) ∙ sym (ap (λ (b : Bool). pick b 0 (heap_of n i x)) (le-ltb x (suc j) (omega arith))) ∙ w
 
     -- ---- two unnamed locations
 
     module _ (a b : ℕ) (la : 1 ≤ a) (ma : a ≤ n) (lb : 1 ≤ b) (mb : b ≤ n) (ua : ¬ Named v (stack_of v n i) a) (ub : ¬ Named v (stack_of v n i) b) where
       -- exchanged they give a lower heap, by places that come from above j
-      pub skip-pair : (r : Lower n (λ x. exchangedHeap a b (heapOf n i) (suc x)) (λ x. heapOf n i (suc x))) → ((ℓ : ℕ) → r.place < ℓ → j < exchange a b ℓ) → j ≤ r.place → SkippableAt j
-      unfolding newHeap
-      skip-pair r far up c e q =
-          let same : (x : ℕ) → j < x → heapOf n c x ≡ heapOf n i x = block-heap n i c j low e in
-          let stack = block-whole-stack n i c v j low e in
-          let moved : (ℓ : ℕ) → r.place < ℓ → newDigit (exchange a b) (heapOf n c (exchange a b ℓ)) ≡ newDigit (exchange a b) (heapOf n i (exchange a b ℓ)) = λ ℓ m. ap (newDigit (exchange a b)) (same (exchange a b ℓ) (far ℓ m)) in
-          heap-not-lower π v n p F c q a b la ma lb mb (λ u. ua (subst (λ (s : Map). Named v s a) stack u)) (λ u. ub (subst (λ (s : Map). Named v s b) stack u))
+      pub skip_pair : (r : Lower n (λ x. exchanged_heap a b (heap_of n i) (suc x)) (λ x. heap_of n i (suc x))) → ((ℓ : ℕ) → r.place < ℓ → j < exchange a b ℓ) → j ≤ r.place → SkippableAt j
+      unfolding new_heap
+      skip_pair r far up c e q =
+          let same : (x : ℕ) → j < x → heap_of n c x ≡ heap_of n i x = block_heap n i c j low e in
+          let stack = block_whole_stack n i c v j low e in
+          let moved : (ℓ : ℕ) → r.place < ℓ → renumbered_digit (exchange a b) (heap_of n c (exchange a b ℓ)) ≡ renumbered_digit (exchange a b) (heap_of n i (exchange a b ℓ)) = λ ℓ m. ap (renumbered_digit (exchange a b)) (same (exchange a b ℓ) (far ℓ m)) in
+          heap_not_lower π v n p F c q a b la ma lb mb (λ u. ua (subst (λ (s : Map). Named v s a) stack u)) (λ u. ub (subst (λ (s : Map). Named v s b) stack u))
           (record {
             place = r.place;
             within = r.within;
@@ -123,26 +123,26 @@ module _ (π : Profile) (v n p : ℕ) (F : Form) (i : ℕ) where
           })
 
     -- neighbours, by the numbers that the digits above r are in a base in which they stand: how code compares them
-    pub skip-worse : (a : ℕ) → 1 ≤ a → suc a ≤ n → ¬ Named v (stack_of v n i) a → ¬ Named v (stack_of v n i) (suc a) → (r base k : ℕ) → j ≤ r → (j ≡ a → suc a ≤ r) → n ≤ r + k → n + 2 ≤ base → num_of base k (λ x. exchangedHeap a (suc a) (heapOf n i) (suc (r + x))) < num_of base k (λ x. heapOf n i (suc (r + x))) → SkippableAt j
-    skip-worse a la ma ua ub r base k jr far nk big less =
-        skip-pair a (suc a) la (omega arith) (omega arith) ma ua ub whole
-        (λ ℓ m. pair-above j a r jr far ℓ (omega (arith, m)))
+    pub skip_worse : (a : ℕ) → 1 ≤ a → suc a ≤ n → ¬ Named v (stack_of v n i) a → ¬ Named v (stack_of v n i) (suc a) → (r base k : ℕ) → j ≤ r → (j ≡ a → suc a ≤ r) → n ≤ r + k → n + 2 ≤ base → num_of base k (λ x. exchanged_heap a (suc a) (heap_of n i) (suc (r + x))) < num_of base k (λ x. heap_of n i (suc (r + x))) → SkippableAt j
+    skip_worse a la ma ua ub r base k jr far nk big less =
+        skip_pair a (suc a) la (omega arith) (omega arith) ma ua ub whole
+        (λ ℓ m. pair_above j a r jr far ℓ (omega (arith, m)))
         (omega arith)
       where
         g : Map
-        g = exchangedHeap a (suc a) (heapOf n i)
+        g = exchanged_heap a (suc a) (heap_of n i)
 
         h : Map
-        h = heapOf n i
+        h = heap_of n i
 
         kh : Heap n h
-        kh = heapOf-heap n i
+        kh = heap_of_heap n i
 
         kg : Heap n g
-        kg = new-heap n (exchange a (suc a)) (exchange a (suc a)) (exchange-renumbering a (suc a) n la (omega arith) (omega arith) ma) h kh
+        kg = new_heap_is n (exchange a (suc a)) (exchange a (suc a)) (exchange_renumbering a (suc a) n la (omega arith) (omega arith) ma) h kh
 
         part : Lower k (λ x. g (suc (r + x))) (λ x. h (suc (r + x)))
-        part = lt-lower base k (λ x. g (suc (r + x))) (λ x. h (suc (r + x))) (λ x. omega (arith, kg.low (suc (r + x)))) (λ x. omega (arith, kh.low (suc (r + x)))) less
+        part = lt_lower base k (λ x. g (suc (r + x))) (λ x. h (suc (r + x))) (λ x. omega (arith, kg.low (suc (r + x)))) (λ x. omega (arith, kh.low (suc (r + x)))) less
 
         inside : Dec (r + part.place < n) → r + part.place < n
         inside (yes l) = l

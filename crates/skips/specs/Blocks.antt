@@ -22,5 +22,5 @@ abbrev pub Skippable : (ℕ → Type 0) → ℕ → ℕ → ℕ → Type 0
 Skippable P t w i = (c : ℕ) → Block w i c → ¬ Lowest P t c
 
 -- the most that out(ℓ) can be where only the digits above j are known
-unfoldable pub outMost : ℕ → Map → ℕ → ℕ
-outMost j h ℓ = pick (ltb j ℓ) (outgoing h ℓ) (pick (eqb ℓ 0) 0 1)
+unfoldable pub most_outgoing : ℕ → Map → ℕ → ℕ
+most_outgoing j h ℓ = pick (ltb j ℓ) (outgoing h ℓ) (pick (eqb ℓ 0) 0 1)

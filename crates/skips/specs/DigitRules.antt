@@ -9,13 +9,13 @@ use Rattle.logic.specs.Heap.{Map, Heap, Allocated, Parts}
 use Rattle.logic.specs.Formula.{Form}
 use Rattle.logic.specs.Formula.Form.{same, diff, pts, ls, conj, disj, but, neg, sep, sept}
 use Rattle.logic.specs.Holds.{Points, Chain, Holds}
-use Rattle.logic.specs.Reflect.{same-of-not}
-use Rattle.logic.specs.Agree.{first_heap, second-heap}
+use Rattle.logic.specs.Reflect.{same_of_not}
+use Rattle.logic.specs.Agree.{first_heap, second_heap}
 use Rattle.skips.specs.Facts.{Digits, Hopeless, PointsDigit, ListCell, ListDigit, AnyDigit, SepDigit, SeptDigit, May}
 
 -- a whole is a heap where its two parts are
-pub whole-heap : (n : ℕ) (g r u : Map) → Parts g r u → Heap n g → Heap n r → Heap n u
-whole-heap n g r u p k q =
+pub whole_heap : (n : ℕ) (g r u : Map) → Parts g r u → Heap n g → Heap n r → Heap n u
+whole_heap n g r u p k q =
     record {
       nil = at 0 k.nil q.nil;
       past = λ ℓ l. at ℓ (k.past ℓ l) (q.past ℓ l);
@@ -26,28 +26,28 @@ whole-heap n g r u p k q =
     at ℓ a b = ⊎_elim (λ (e : (g ℓ ≡ u ℓ) × (r ℓ ≡ 0)). sym e.0 ∙ a) (λ (e : (g ℓ ≡ 0) × (r ℓ ≡ u ℓ)). sym e.1 ∙ b) (p ℓ)
 
 -- an allocated location is not nil's
-pub allocated-some : (n : ℕ) (h : Map) (ℓ : ℕ) → Heap n h → Allocated h ℓ → ¬ (ℓ ≡ 0)
-allocated-some n h ℓ k f e = f (ap h e ∙ k.nil)
+pub allocated_some : (n : ℕ) (h : Map) (ℓ : ℕ) → Heap n h → Allocated h ℓ → ¬ (ℓ ≡ 0)
+allocated_some n h ℓ k f e = f (ap h e ∙ k.nil)
 
-points-digit : (a b : ℕ) (h : Map) (ℓ : ℕ) → Points a b h → PointsDigit a b ℓ (h ℓ)
-points-digit a b h ℓ q = go (ℕ_discrete ℓ a)
+points_digit : (a b : ℕ) (h : Map) (ℓ : ℕ) → Points a b h → PointsDigit a b ℓ (h ℓ)
+points_digit a b h ℓ q = go (ℕ_discrete ℓ a)
   where
     go : Dec (ℓ ≡ a) → PointsDigit a b ℓ (h ℓ)
     go (yes e) = inl (e, ap h e ∙ q.here)
-    go (no e) = inr (e, same-of-not (h ℓ) 0 (λ f. e (q.only ℓ f)))
+    go (no e) = inr (e, same_of_not (h ℓ) 0 (λ f. e (q.only ℓ f)))
 
-points-some : (n a b : ℕ) (h : Map) → Heap n h → Points a b h → ¬ (a ≡ 0)
-points-some n a b h k q = allocated-some n h a k (λ z. absurd (omega (arith, z, q.here)))
+points_some : (n a b : ℕ) (h : Map) → Heap n h → Points a b h → ¬ (a ≡ 0)
+points_some n a b h k q = allocated_some n h a k (λ z. absurd (omega (arith, z, q.here)))
 
 -- a chain's cells
 module _ (n k a b : ℕ) (h : Map) (g : Heap n h) (c : Chain k a b h) where
-  chain-some : (i : ℕ) → i < k → Allocated h (c.at i)
-  chain-some i l z = absurd (omega (arith, z, c.link i l))
+  chain_some : (i : ℕ) → i < k → Allocated h (c.at i)
+  chain_some i l z = absurd (omega (arith, z, c.link i l))
 
-  chain-cell : (i : ℕ) → i < k → ListCell n a b (c.at i) (c.at (suc i))
-  chain-cell i l =
+  chain_cell : (i : ℕ) → i < k → ListCell n a b (c.at i) (c.at (suc i))
+  chain_cell i l =
       record {
-        no-nil = allocated-some n h (c.at i) g (chain-some i l);
+        no_nil = allocated_some n h (c.at i) g (chain_some i l);
         no_end = λ e. c.different i k l (omega arith) (e ∙ sym c.last);
         no_start = λ e. c.different 0 (suc i) (omega arith) (omega arith) (c.first ∙ sym e);
         no_loop = λ e. c.different i (suc i) (omega arith) (omega arith) (sym e);
@@ -57,22 +57,22 @@ module _ (n k a b : ℕ) (h : Map) (g : Heap n h) (c : Chain k a b h) where
     where
       last : (suc i ≡ k) ⊎ (suc i < k) → c.at (suc i) ≡ 0 → b ≡ 0
       last (inl e) z = sym c.last ∙ ap c.at (sym e) ∙ z
-      last (inr m) z = absurd (allocated-some n h (c.at (suc i)) g (chain-some (suc i) m) z)
+      last (inr m) z = absurd (allocated_some n h (c.at (suc i)) g (chain_some (suc i) m) z)
 
-  list-digit : 1 ≤ k → (ℓ : ℕ) → ListDigit n a b ℓ (h ℓ)
-  list-digit l ℓ = go (ℕ_discrete (h ℓ) 0)
+  list_digit : 1 ≤ k → (ℓ : ℕ) → ListDigit n a b ℓ (h ℓ)
+  list_digit l ℓ = go (ℕ_discrete (h ℓ) 0)
     where
       go : Dec (h ℓ ≡ 0) → ListDigit n a b ℓ (h ℓ)
-      go (yes z) = inl (λ e. chain-some 0 l (ap h (c.first ∙ sym e) ∙ z), z)
+      go (yes z) = inl (λ e. chain_some 0 l (ap h (c.first ∙ sym e) ∙ z), z)
       go (no f) =
           let q = c.only ℓ f in
-          inr (c.at (suc q.0), ap h (sym q.2) ∙ c.link q.0 q.1, subst (λ (x : ℕ). ListCell n a b x (c.at (suc q.0))) q.2 (chain-cell q.0 q.1))
+          inr (c.at (suc q.0), ap h (sym q.2) ∙ c.link q.0 q.1, subst (λ (x : ℕ). ListCell n a b x (c.at (suc q.0))) q.2 (chain_cell q.0 q.1))
 
-  list-some : 1 ≤ k → ¬ (a ≡ 0)
-  list-some l e = allocated-some n h (c.at 0) g (chain-some 0 l) (c.first ∙ e)
+  list_some : 1 ≤ k → ¬ (a ≡ 0)
+  list_some l e = allocated_some n h (c.at 0) g (chain_some 0 l) (c.first ∙ e)
 
-  list-ends : 1 ≤ k → ¬ (a ≡ b)
-  list-ends l e = c.different 0 k l (omega arith) (c.first ∙ e ∙ sym c.last)
+  list_ends : 1 ≤ k → ¬ (a ≡ b)
+  list_ends l e = c.different 0 k l (omega arith) (c.first ∙ e ∙ sym c.last)
 
 module _ (π : Profile) (v n : ℕ) (s : Map) (ℓ : ℕ) where
   -- a larger set
@@ -81,55 +81,55 @@ module _ (π : Profile) (v n : ℕ) (s : Map) (ℓ : ℕ) where
   digits_more F P Q m f h k q = m (h ℓ) (k.low ℓ) (f h k q)
 
   -- no information
-  pub digits-any : (F : Form) → Digits π v n F s ℓ (AnyDigit n ℓ)
+  pub digits_any : (F : Form) → Digits π v n F s ℓ (AnyDigit n ℓ)
   unfolding Digits
-  digits-any F h k q = (k.low ℓ, λ e. ap h e ∙ k.nil)
+  digits_any F h k q = (k.low ℓ, λ e. ap h e ∙ k.nil)
 
   pub digits_same : (x y : ℕ) → Digits π v n (same x y) s ℓ (May n s ℓ (same x y))
   unfolding Digits Holds May
   digits_same x y h k q = (q.0, q.1 ℓ)
 
-  pub digits-diff : (x y : ℕ) → Digits π v n (diff x y) s ℓ (May n s ℓ (diff x y))
+  pub digits_diff : (x y : ℕ) → Digits π v n (diff x y) s ℓ (May n s ℓ (diff x y))
   unfolding Digits Holds May
-  digits-diff x y h k q = (q.0, q.1 ℓ)
+  digits_diff x y h k q = (q.0, q.1 ℓ)
 
-  pub digits-pts : (x y : ℕ) → Digits π v n (pts x y) s ℓ (May n s ℓ (pts x y))
+  pub digits_pts : (x y : ℕ) → Digits π v n (pts x y) s ℓ (May n s ℓ (pts x y))
   unfolding Digits Holds May
-  digits-pts x y h k q = (points-some n (s x) (s y) h k q, points-digit (s x) (s y) h ℓ q)
+  digits_pts x y h k q = (points_some n (s x) (s y) h k q, points_digit (s x) (s y) h ℓ q)
 
-  pub digits-ls : (x y : ℕ) → Digits π v n (ls x y) s ℓ (May n s ℓ (ls x y))
+  pub digits_ls : (x y : ℕ) → Digits π v n (ls x y) s ℓ (May n s ℓ (ls x y))
   unfolding Digits Holds May
-  digits-ls x y h k q =
+  digits_ls x y h k q =
       ⊎_elim (λ q. inl (q.0, q.1 ℓ))
-      (λ q. inr (list-ends n q.0 (s x) (s y) h k q.2 q.1, list-some n q.0 (s x) (s y) h k q.2 q.1, list-digit n q.0 (s x) (s y) h k q.2 q.1 ℓ))
+      (λ q. inr (list_ends n q.0 (s x) (s y) h k q.2 q.1, list_some n q.0 (s x) (s y) h k q.2 q.1, list_digit n q.0 (s x) (s y) h k q.2 q.1 ℓ))
       q
 
-  pub digits-but : (a b : Form) (P : ℕ → Type 0) → Digits π v n a s ℓ P → Digits π v n (but a b) s ℓ P
+  pub digits_but : (a b : Form) (P : ℕ → Type 0) → Digits π v n a s ℓ P → Digits π v n (but a b) s ℓ P
   unfolding Digits Holds
-  digits-but a b P f h k q = f h k q.0
+  digits_but a b P f h k q = f h k q.0
 
   module _ (a b : Form) (P Q : ℕ → Type 0) (f : Digits π v n a s ℓ P) (g : Digits π v n b s ℓ Q) where
-    pub digits-conj : Digits π v n (conj a b) s ℓ (λ d. P d × Q d)
+    pub digits_conj : Digits π v n (conj a b) s ℓ (λ d. P d × Q d)
     unfolding Digits Holds
-    digits-conj h k q = (f h k q.0, g h k q.1)
+    digits_conj h k q = (f h k q.0, g h k q.1)
 
-    pub digits-disj : Digits π v n (disj a b) s ℓ (λ d. P d ⊎ Q d)
+    pub digits_disj : Digits π v n (disj a b) s ℓ (λ d. P d ⊎ Q d)
     unfolding Digits Holds
-    digits-disj h k q = ⊎_elim (λ q. inl (f h k q)) (λ q. inr (g h k q)) q
+    digits_disj h k q = ⊎_elim (λ q. inl (f h k q)) (λ q. inr (g h k q)) q
 
-    pub digits-sep : Digits π v n (sep a b) s ℓ (SepDigit P Q)
+    pub digits_sep : Digits π v n (sep a b) s ℓ (SepDigit P Q)
     unfolding Digits Holds
-    digits-sep h k q =
+    digits_sep h k q =
         let u = f q.0 (first_heap n q.0 q.1 h q.2 k) q.4 in
-        let w = g q.1 (second-heap n q.0 q.1 h q.2 k) q.5 in
+        let w = g q.1 (second_heap n q.0 q.1 h q.2 k) q.5 in
         ⊎_elim (λ e. inl (subst P e.0 u, subst Q e.1 w)) (λ e. inr (subst P e.0 u, subst Q e.1 w)) (q.2 ℓ)
 
     -- the heap is the whole without what was added
-    pub digits-sept : Digits π v n (sept a b) s ℓ (SeptDigit P Q)
+    pub digits_sept : Digits π v n (sept a b) s ℓ (SeptDigit P Q)
     unfolding Digits Holds
-    digits-sept h k q =
+    digits_sept h k q =
         let u = f q.0 q.2 q.5 in
-        let w = g q.1 (whole-heap n q.0 h q.1 q.3 q.2 k) q.6 in
+        let w = g q.1 (whole_heap n q.0 h q.1 q.3 q.2 k) q.6 in
         ⊎_elim (λ e. inr (e.1, (q.0 ℓ, u, subst Q (sym e.0) w))) (λ e. inl (subst P e.0 u, subst Q (sym e.1) w)) (q.3 ℓ)
 
   -- where no digit may stand, nothing holds; and then any digits are right
@@ -137,30 +137,30 @@ module _ (π : Profile) (v n : ℕ) (s : Map) (ℓ : ℕ) where
   unfolding Digits Hopeless
   hopeless F P f none h k q = none (h ℓ) (k.low ℓ) (f h k q)
 
-  pub digits-hopeless : (F : Form) (P : ℕ → Type 0) → Hopeless π v n F s → Digits π v n F s ℓ P
+  pub digits_hopeless : (F : Form) (P : ℕ → Type 0) → Hopeless π v n F s → Digits π v n F s ℓ P
   unfolding Digits Hopeless
-  digits-hopeless F P none h k q = absurd (none h k q)
+  digits_hopeless F P none h k q = absurd (none h k q)
 
   -- a disjunction one side of which cannot hold has the other's digits
   module _ (a b : Form) (P : ℕ → Type 0) where
-    pub digits-second : Hopeless π v n a s → Digits π v n b s ℓ P → Digits π v n (disj a b) s ℓ P
+    pub digits_second : Hopeless π v n a s → Digits π v n b s ℓ P → Digits π v n (disj a b) s ℓ P
     unfolding Digits Hopeless Holds
-    digits-second none g h k q = ⊎_elim (λ e. absurd (none h k e)) (λ e. g h k e) q
+    digits_second none g h k q = ⊎_elim (λ e. absurd (none h k e)) (λ e. g h k e) q
 
-    pub digits-first : Hopeless π v n b s → Digits π v n a s ℓ P → Digits π v n (disj a b) s ℓ P
+    pub digits_first : Hopeless π v n b s → Digits π v n a s ℓ P → Digits π v n (disj a b) s ℓ P
     unfolding Digits Hopeless Holds
-    digits-first none f h k q = ⊎_elim (λ e. f h k e) (λ e. absurd (none h k e)) q
+    digits_first none f h k q = ⊎_elim (λ e. f h k e) (λ e. absurd (none h k e)) q
 
   -- the digit at ℓ of a heap on which F holds is allowed
-  pub may-holds : (F : Form) → Digits π v n F s ℓ (May n s ℓ F)
+  pub may_holds : (F : Form) → Digits π v n F s ℓ (May n s ℓ F)
   unfolding May
-  may-holds (same x y) = digits_same x y
-  may-holds (diff x y) = digits-diff x y
-  may-holds (pts x y) = digits-pts x y
-  may-holds (ls x y) = digits-ls x y
-  may-holds (conj a b) = digits-conj a b (May n s ℓ a) (May n s ℓ b) (may-holds a) (may-holds b)
-  may-holds (disj a b) = digits-disj a b (May n s ℓ a) (May n s ℓ b) (may-holds a) (may-holds b)
-  may-holds (but a b) = digits-but a b (May n s ℓ a) (may-holds a)
-  may-holds (neg a) = digits-any (neg a)
-  may-holds (sep a b) = digits-sep a b (May n s ℓ a) (May n s ℓ b) (may-holds a) (may-holds b)
-  may-holds (sept a b) = digits-sept a b (May n s ℓ a) (May n s ℓ b) (may-holds a) (may-holds b)
+  may_holds (same x y) = digits_same x y
+  may_holds (diff x y) = digits_diff x y
+  may_holds (pts x y) = digits_pts x y
+  may_holds (ls x y) = digits_ls x y
+  may_holds (conj a b) = digits_conj a b (May n s ℓ a) (May n s ℓ b) (may_holds a) (may_holds b)
+  may_holds (disj a b) = digits_disj a b (May n s ℓ a) (May n s ℓ b) (may_holds a) (may_holds b)
+  may_holds (but a b) = digits_but a b (May n s ℓ a) (may_holds a)
+  may_holds (neg a) = digits_any (neg a)
+  may_holds (sep a b) = digits_sep a b (May n s ℓ a) (May n s ℓ b) (may_holds a) (may_holds b)
+  may_holds (sept a b) = digits_sept a b (May n s ℓ a) (May n s ℓ b) (may_holds a) (may_holds b)

@@ -36,7 +36,7 @@ PointsDigit a b ℓ d = ((ℓ ≡ a) × (d ≡ suc b)) ⊎ ((¬ (ℓ ≡ a)) × 
 -- a cell with value x at ℓ in a list from a to another location b: nil and b have none; none points to a or to itself, and none to
 -- nil but where the list ends there
 pub record ListCell (n a b ℓ x : ℕ) : Type 0 where
-  pub no-nil : ¬ (ℓ ≡ 0)
+  pub no_nil : ¬ (ℓ ≡ 0)
   pub no_end : ¬ (ℓ ≡ b)
   pub no_start : ¬ (x ≡ a)
   pub no_loop : ¬ (x ≡ ℓ)
@@ -76,16 +76,16 @@ module _ (n : ℕ) (s : Map) (ℓ : ℕ) where
 -- ---- the bounds, operator by operator
 
 -- one cell or a list from a to b: in(ℓ) + [ℓ is a] = out(ℓ) + [ℓ is b]
-abbrev pub pathCap : ℕ → ℕ → ℕ → ℕ
-pathCap a b ℓ = 1 + hit (suc b) ℓ - hit (suc a) ℓ
+abbrev pub cap_of_path : ℕ → ℕ → ℕ → ℕ
+cap_of_path a b ℓ = 1 + hit (suc b) ℓ - hit (suc a) ℓ
 
 module _ (n : ℕ) (s : Map) (ℓ : ℕ) where
   unfoldable mutual
     pub cap_of : Form → ℕ
     cap_of (same x y) = 1
     cap_of (diff x y) = 1
-    cap_of (pts x y) = pathCap (s x) (s y) ℓ
-    cap_of (ls x y) = pathCap (s x) (s y) ℓ
+    cap_of (pts x y) = cap_of_path (s x) (s y) ℓ
+    cap_of (ls x y) = cap_of_path (s x) (s y) ℓ
     cap_of (conj a b) = smaller (cap_of a) (cap_of b)
     cap_of (disj a b) = larger (cap_of a) (cap_of b)
     cap_of (but a b) = cap_of a
@@ -96,8 +96,8 @@ module _ (n : ℕ) (s : Map) (ℓ : ℕ) where
     pub need_of : Form → ℕ
     need_of (same x y) = 1
     need_of (diff x y) = 1
-    need_of (pts x y) = pathCap (s y) (s x) ℓ
-    need_of (ls x y) = pathCap (s y) (s x) ℓ
+    need_of (pts x y) = cap_of_path (s y) (s x) ℓ
+    need_of (ls x y) = cap_of_path (s y) (s x) ℓ
     need_of (conj a b) = smaller (need_of a) (need_of b)
     need_of (disj a b) = larger (need_of a) (need_of b)
     need_of (but a b) = need_of a

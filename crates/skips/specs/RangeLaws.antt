@@ -7,7 +7,7 @@ use Rattle.std.proofs.Math.Decide.{dec_lt}
 use native.Mathlib.Omega.{arith}
 use Rattle.logic.specs.Tests.{pick}
 use Rattle.logic.specs.Search.{Lowest}
-use Rattle.skips.specs.Ranges.{Passed, Reply, nothing, numbered, FitInRange, Gives, lowerOf, lowestOf, Pieces}
+use Rattle.skips.specs.Ranges.{Passed, Reply, nothing, numbered, FitInRange, Gives, lower_of, lowest_of, Pieces}
 
 module _ (P : ℕ → Type 0) (t : ℕ) where
   pub passed_start : (from : ℕ) → Passed P t from from
@@ -31,49 +31,49 @@ module _ (P : ℕ → Type 0) (t : ℕ) where
       go (suc e) c a l k f =
           q c (omega arith) l (record { candidate = k; fits = f; lower = λ i b. go e i (omega arith) (omega arith) (omega arith) })
 
-  pub from-0-lowest : (to k : ℕ) → FitInRange P t 0 to k → Lowest P t k
-  from-0-lowest to k q =
+  pub from_0_lowest : (to k : ℕ) → FitInRange P t 0 to k → Lowest P t k
+  from_0_lowest to k q =
       record { candidate = q.candidate; fits = q.fits; lower = λ i l. none_below k q.passed i l (omega (arith, q.candidate)) }
 
   -- ---- two ranges, and many
 
   module _ (from cut to : ℕ) (l : from ≤ cut) (m : cut ≤ to) where
     -- a candidate of the first one is below every candidate of the second
-    first-fit : (k : ℕ) → FitInRange P t from cut k → FitInRange P t from to k
-    first-fit k q = record { from_on = q.from_on; before = omega (arith, q.before); candidate = q.candidate; fits = q.fits; passed = q.passed }
+    first_fit : (k : ℕ) → FitInRange P t from cut k → FitInRange P t from to k
+    first_fit k q = record { from_on = q.from_on; before = omega (arith, q.before); candidate = q.candidate; fits = q.fits; passed = q.passed }
 
-    second-fit : (k : ℕ) → Passed P t from cut → FitInRange P t cut to k → FitInRange P t from to k
-    second-fit k p q =
+    second_fit : (k : ℕ) → Passed P t from cut → FitInRange P t cut to k → FitInRange P t from to k
+    second_fit k p q =
         record { from_on = omega (arith, q.from_on); before = q.before; candidate = q.candidate; fits = q.fits; passed = passed_on from cut k p q.passed }
 
-    pub ranges-add-up : (x y : Reply) → Gives P t from cut x → Gives P t cut to y → Gives P t from to (lowerOf x y)
-    unfolding Gives lowerOf
-    ranges-add-up nothing nothing q r = passed_on from cut to q r
-    ranges-add-up nothing (numbered k) q r = second-fit k q r
-    ranges-add-up (numbered k) nothing q r = first-fit k q
-    ranges-add-up (numbered k) (numbered j) q r =
-        subst (λ (b : Bool). FitInRange P t from to (pick b k j)) (sym (lt-ltb k j (omega (arith, q.before, r.from_on)))) (first-fit k q)
+    pub ranges_add_up : (x y : Reply) → Gives P t from cut x → Gives P t cut to y → Gives P t from to (lower_of x y)
+    unfolding Gives lower_of
+    ranges_add_up nothing nothing q r = passed_on from cut to q r
+    ranges_add_up nothing (numbered k) q r = second_fit k q r
+    ranges_add_up (numbered k) nothing q r = first_fit k q
+    ranges_add_up (numbered k) (numbered j) q r =
+        subst (λ (b : Bool). FitInRange P t from to (pick b k j)) (sym (lt-ltb k j (omega (arith, q.before, r.from_on)))) (first_fit k q)
 
-  pieces-ordered : (xs : List Reply) (from to : ℕ) → Pieces P t from to xs → from ≤ to
+  pieces_ordered : (xs : List Reply) (from to : ℕ) → Pieces P t from to xs → from ≤ to
   unfolding Pieces
-  pieces-ordered [] from to q = omega arith
-  pieces-ordered (x ∷ xs) from to q = let r = pieces-ordered xs q.0 to q.3 in omega (arith, q.1, r)
+  pieces_ordered [] from to q = omega arith
+  pieces_ordered (x ∷ xs) from to q = let r = pieces_ordered xs q.0 to q.3 in omega (arith, q.1, r)
 
   -- "the lowest of the pieces' answers is the whole's"
-  pub pieces-add-up : (xs : List Reply) (from to : ℕ) → Pieces P t from to xs → Gives P t from to (lowestOf xs)
-  unfolding Pieces lowestOf Gives
-  pieces-add-up [] from to q = subst (Passed P t from) q (passed_start from)
-  pieces-add-up (x ∷ xs) from to q =
-      let r = pieces-add-up xs q.0 to q.3 in
-      ranges-add-up from q.0 to q.1 (pieces-ordered xs q.0 to q.3) x (lowestOf xs) q.2 r
+  pub pieces_add_up : (xs : List Reply) (from to : ℕ) → Pieces P t from to xs → Gives P t from to (lowest_of xs)
+  unfolding Pieces lowest_of Gives
+  pieces_add_up [] from to q = subst (Passed P t from) q (passed_start from)
+  pieces_add_up (x ∷ xs) from to q =
+      let r = pieces_add_up xs q.0 to q.3 in
+      ranges_add_up from q.0 to q.1 (pieces_ordered xs q.0 to q.3) x (lowest_of xs) q.2 r
 
   -- ---- pieces of the whole search
 
-  pub pieces-lowest : (xs : List Reply) (to k : ℕ) → Pieces P t 0 to xs → lowestOf xs ≡ numbered k → Lowest P t k
+  pub pieces_lowest : (xs : List Reply) (to k : ℕ) → Pieces P t 0 to xs → lowest_of xs ≡ numbered k → Lowest P t k
   unfolding Gives
-  pieces-lowest xs to k q e = from-0-lowest to k (subst (Gives P t 0 to) e (pieces-add-up xs 0 to q))
+  pieces_lowest xs to k q e = from_0_lowest to k (subst (Gives P t 0 to) e (pieces_add_up xs 0 to q))
 
   -- "and none if no piece has one"
-  pub pieces_none : (xs : List Reply) (to : ℕ) → Pieces P t 0 to xs → lowestOf xs ≡ nothing → (c : ℕ) → c < to → c < t → ¬ P c
+  pub pieces_none : (xs : List Reply) (to : ℕ) → Pieces P t 0 to xs → lowest_of xs ≡ nothing → (c : ℕ) → c < to → c < t → ¬ P c
   unfolding Gives
-  pieces_none xs to q e = none_below to (subst (Gives P t 0 to) e (pieces-add-up xs 0 to q))
+  pieces_none xs to q e = none_below to (subst (Gives P t 0 to) e (pieces_add_up xs 0 to q))

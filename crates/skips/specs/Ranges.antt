@@ -28,19 +28,19 @@ Gives P t from to nothing = Passed P t from to
 Gives P t from to (numbered k) = FitInRange P t from to k
 
 -- what code gives back: whether there is a candidate, and its number if so
-abbrev pub replyOf : Bool → ℕ → Reply
-replyOf true k = numbered k
-replyOf false k = nothing
+abbrev pub reply_of : Bool → ℕ → Reply
+reply_of true k = numbered k
+reply_of false k = nothing
 
 -- the lower of two replies, and the lowest of many: "none if no piece has one"
-unfoldable pub lowerOf : Reply → Reply → Reply
-lowerOf nothing y = y
-lowerOf (numbered k) nothing = numbered k
-lowerOf (numbered k) (numbered j) = numbered (pick (ltb k j) k j)
+unfoldable pub lower_of : Reply → Reply → Reply
+lower_of nothing y = y
+lower_of (numbered k) nothing = numbered k
+lower_of (numbered k) (numbered j) = numbered (pick (ltb k j) k j)
 
-unfoldable pub lowestOf : List Reply → Reply
-lowestOf [] = nothing
-lowestOf (x ∷ xs) = lowerOf x (lowestOf xs)
+unfoldable pub lowest_of : List Reply → Reply
+lowest_of [] = nothing
+lowest_of (x ∷ xs) = lower_of x (lowest_of xs)
 
 -- what the pieces of a range give back, "cut anywhere": each piece ends where the next one starts
 unfoldable pub Pieces : (ℕ → Type 0) → ℕ → ℕ → ℕ → List Reply → Type 0

@@ -6,13 +6,13 @@ use Rattle.rows.specs.Assignment.{Set, Assignment}
 use Rattle.solutions.specs.ModelOf.{list_of}
 
 -- "one byte for each set (bit ℓ−1 for location ℓ ..)"
-abbrev pub setByte : ℕ → Set → ℕ
-setByte n S = num_of 2 n (λ i. pick (S (suc i)) 1 0)
+abbrev pub set_byte : ℕ → Set → ℕ
+set_byte n S = num_of 2 n (λ i. pick (S (suc i)) 1 0)
 
 -- byte i of the assignment ν: "v location bytes, n value bytes .. for each array, one byte for each set"; a is the number of arrays
 abbrev pub byte_of : ℕ → ℕ → ℕ → Assignment → ℕ → ℕ
 byte_of v n a ν i =
-    pick (ltb i v) (ν.stack (suc i)) (pick (ltb i (v + a * n)) (ν.array ((i - v) / n) (suc ((i - v) % n))) (setByte n (ν.set (i - (v + a * n)))))
+    pick (ltb i v) (ν.stack (suc i)) (pick (ltb i (v + a * n)) (ν.array ((i - v) / n) (suc ((i - v) % n))) (set_byte n (ν.set (i - (v + a * n)))))
 
 -- and b is the number of sets
 unfoldable pub bytes_of : ℕ → ℕ → ℕ → ℕ → Assignment → List ℕ

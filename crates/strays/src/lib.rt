@@ -3,10 +3,10 @@ ghost use Rattle.std.specs.Prelude.{◌≡◌, true, suc, ◌+◌, ◌*◌, ◌<
 ghost use Rattle.logic.specs.Checks.{Answers, upto};
 ghost use Rattle.logic.specs.CheckLaws.{Yes};
 ghost use Rattle.logic.specs.Reflect.{Is};
-ghost use Rattle.logic.specs.Tests.{inPart};
+ghost use Rattle.logic.specs.Tests.{in_part};
 ghost use Rattle.logic.specs.Table.{NodeOk, Sound};
 ghost use Rattle.logic.specs.Book.{most, nodes};
-ghost use Rattle.logic.specs.Strays.{NamedByAtom, nameChecks};
+ghost use Rattle.logic.specs.Strays.{NamedByAtom, name_checks};
 ghost use Rattle.strays.specs.Marks.{NamesAt, Marks};
 
 use cells::bit;
@@ -44,7 +44,7 @@ pub fn marks(f: &[u8], v: u64) -> u64
 
 fn is_marked(m: u64, x: u64) -> bool
     requires { x ≤ most }
-    ensures { Is result (inPart m (suc x) ≡ true) }
+    ensures { Is result (in_part m (suc x) ≡ true) }
 {
     (m >> x) % 2 == 1
 }
@@ -52,7 +52,7 @@ fn is_marked(m: u64, x: u64) -> bool
 // Whether an atom names each of the variables 1 to v: number 0, or 25 with the lowest that none names.
 pub fn named(f: &[u8], v: u64) -> Answer
     requires { Sound v f.now (nodes f.now) × (v ≤ most) }
-    ensures { Answers (upto (nameChecks f.now) v) Yes result }
+    ensures { Answers (upto (name_checks f.now) v) Yes result }
 {
     let m = marks(f, v);
     let mut left = v;

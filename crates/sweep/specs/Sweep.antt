@@ -5,11 +5,11 @@ use Rattle.logic.specs.Candidates.{total}
 use Rattle.logic.specs.declared.Profile.TheVariants.{Strong}
 use Rattle.logic.specs.Table.{tree}
 use Rattle.cells.specs.Cells.{cells, Barred}
-use Rattle.judge.specs.Setting.{varsOf, locs_of, stack_of, Ready}
+use Rattle.judge.specs.Setting.{vars_of, locs_of, stack_of, Ready}
 use Rattle.candidates.specs.declared.Candidate.{Candidate}
 use Rattle.candidates.specs.Counter.{WithinBounds, number}
 use Rattle.skips.specs.Blocks.{weight, after}
-use Rattle.skips.specs.Ranges.{Passed, Gives, replyOf}
+use Rattle.skips.specs.Ranges.{Passed, Gives, reply_of}
 use Rattle.rootfacts.specs.RootFacts.{Facts}
 use Rattle.sweep.specs.declared.Stretch.{Stretch}
 
@@ -36,7 +36,7 @@ pub record Going (v n : ℕ) (P : ℕ → Type 0) (from to i : ℕ) (c : Candida
 
 -- r is what the way through gives back
 pub record Given (v n : ℕ) (P : ℕ → Type 0) (from to : ℕ) (r : Stretch) : Type 0 where
-  pub reply : Gives P (total v n) from to (replyOf r.found r.number)
+  pub reply : Gives P (total v n) from to (reply_of r.found r.number)
   pub at : r.found ≡ true → At v n r.number r.at
 
 -- b is the setting of candidate c, which has number `from`, for node k of the table f; t has the facts of node k with c's stack, and
@@ -44,8 +44,8 @@ pub record Given (v n : ℕ) (P : ℕ → Type 0) (from to : ℕ) (r : Stretch) 
 pub record Facing (f b : List ℕ) (k : ℕ) (t : List ℕ) (u : ℕ) (c : Candidate) (from to : ℕ) : Type 0 where
   pub ready : Ready f b k
   pub facts : Facts (locs_of b) (tree f k) (stack_of b) t
-  pub unnamed : Barred Strong (varsOf b) (locs_of b) (stack_of b) u
-  pub start : At (varsOf b) (locs_of b) from c
+  pub unnamed : Barred Strong (vars_of b) (locs_of b) (stack_of b) u
+  pub start : At (vars_of b) (locs_of b) from c
   pub stack : cells c.stack ≡ stack_of b
   pub same : to ≤ after (weight (locs_of b) (locs_of b)) from
-  pub inside : to ≤ total (varsOf b) (locs_of b)
+  pub inside : to ≤ total (vars_of b) (locs_of b)

@@ -9,7 +9,7 @@ ghost use Rattle.logic.specs.Candidates.{total};
 ghost use Rattle.logic.specs.Search.{CandidateFits};
 ghost use Rattle.cells.specs.Cells.{most, cells};
 ghost use Rattle.pairs.specs.Pairs.{Lists};
-ghost use Rattle.judge.specs.Setting.{room, varsOf, locs_of, pathOf, profileOf, stack_of, Ready};
+ghost use Rattle.judge.specs.Setting.{room, vars_of, locs_of, path_of, profile_of, stack_of, Ready};
 ghost use Rattle.candidates.specs.Counter.{WithinBounds, number, Passes};
 ghost use Rattle.levels.specs.Levels.{OutOfOrder};
 ghost use Rattle.skips.specs.Blocks.{weight, after};
@@ -69,7 +69,7 @@ pub fn least(a: u64, b: u64) -> u64
 // themselves: most candidates fail the first, and it is then part of the loop.
 fn fits(f: &Table, k: usize, b: &[u64; 6], j: u64, w: u64, pairs: &&[u16]) -> bool
     requires { Ready f.now b.now k × Heap (locs_of b.now) (cells w) × Lists (locs_of b.now) pairs.now.now }
-    ensures { Is result ((locs_of b.now ≤ j) × Fits (profileOf b.now) (varsOf b.now) (locs_of b.now) (pathOf b.now) (tree f.now k) (stack_of b.now) (cells w)) }
+    ensures { Is result ((locs_of b.now ≤ j) × Fits (profile_of b.now) (vars_of b.now) (locs_of b.now) (path_of b.now) (tree f.now k) (stack_of b.now) (cells w)) }
 {
     if j < b[1] {
         return false;
@@ -127,7 +127,7 @@ fn heaps(
     pairs: &&[u16],
 ) -> Stretch
     requires { Facing f.now b.now k t.now u first from to × Lists (locs_of b.now) pairs.now.now }
-    ensures { Given (varsOf b.now) (locs_of b.now) (CandidateFits (profileOf b.now) (varsOf b.now) (locs_of b.now) (pathOf b.now) (tree f.now k)) from to result }
+    ensures { Given (vars_of b.now) (locs_of b.now) (CandidateFits (profile_of b.now) (vars_of b.now) (locs_of b.now) (path_of b.now) (tree f.now k)) from to result }
 {
     let n = b[1];
     let looking = is_looking(t, u, n);

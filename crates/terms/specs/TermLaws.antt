@@ -7,88 +7,88 @@ use mathlib.Core.List.{List, [], ◌∷◌, ◌++◌}
 use native.Mathlib.Omega.{arith}
 use Rattle.std.proofs.Math.ListN.{get_or}
 use borrow.Author.Tests.{eqb-true, eqb-false, ne_eqb, le-leb, lt-leb}
-use Rattle.grammar.specs.Steps.{onward, looks, goes-still}
+use Rattle.grammar.specs.Steps.{onward, looks, goes_still}
 use Rattle.grammar.specs.Spellings.{other}
-use Rattle.logic.specs.Tests.{andb, sameBytes}
-use Rattle.logic.specs.Reflect.{is-same-bytes, refutes, Is, is-and, is-or, is_le, fails, false-true}
-use Rattle.grammar.specs.Phrase.{bytes, joins, Term, nil-term, name-term, spelling, lower, letter, choose}
-use Rattle.grammar.specs.Phrase.Join.{sep-word}
+use Rattle.logic.specs.Tests.{andb, same_bytes}
+use Rattle.logic.specs.Reflect.{is_same_bytes, refutes, Is, is_and, is_or, is_le, fails, false_true}
+use Rattle.grammar.specs.Phrase.{bytes, joins, Term, nil_term, name_term, spelling, lower, letter, choose}
+use Rattle.grammar.specs.Phrase.Join.{sep_word}
 use Rattle.grammar.specs.Grammar.{seen, blank, Byte, Spelt}
 use Rattle.grammar.specs.Grammar.Spelt.{no_more, one_more}
 use Rattle.grammar.specs.Machine.{Frame, Spot, start, later, arg, name, nil, dead, reserved, viable, termed, closing, step, out, bad, emits, alive, ending}
-use Rattle.grammar.specs.Forward.{Behind, spells-nil, run-name, run-nil}
+use Rattle.grammar.specs.Forward.{Behind, spells_nil, run_name, run_nil}
 use Rattle.words.specs.Words.{SpelledIs}
 use Rattle.words.specs.declared.Next.TheVariants.{At, Bad}
-use Rattle.words.specs.Stops.{stops, nil-misses}
-use Rattle.terms.specs.Letters.{packed, lettersIn, lettersOf, termOf}
-use Rattle.terms.specs.LetterLaws.{full-name, letters-more, packed-letters, letters-word, viable-over}
+use Rattle.words.specs.Stops.{stops, nil_misses}
+use Rattle.terms.specs.Letters.{packed, letters_in, letters_of, term_of}
+use Rattle.terms.specs.LetterLaws.{full_name, letters_more, packed_letters, letters_word, viable_over}
 use Rattle.terms.specs.declared.Found.{Found}
 use Rattle.terms.specs.declared.Found.TheVariants.{Term as Reads, Wrong}
 use Rattle.terms.specs.Terms.{last_of, LettersIs, EndsIs, NilIs, EndedIs, TermIs}
 
 -- ---- letters
 
-pub is-lower-law : (b : ℕ) → Is (lower b) ((97 ≤ b) × (b ≤ 122))
-is-lower-law b = is-and (leb 97 b) (leb b 122) (is_le 97 b) (is_le b 122)
+pub is_lower_law : (b : ℕ) → Is (lower b) ((97 ≤ b) × (b ≤ 122))
+is_lower_law b = is_and (leb 97 b) (leb b 122) (is_le 97 b) (is_le b 122)
 
-pub lower-up : (b : ℕ) → 97 ≤ b → leb b 122 ≡ lower b
-lower-up b h = rw (le-leb 97 b h)
+pub lower_up : (b : ℕ) → 97 ≤ b → leb b 122 ≡ lower b
+lower_up b h = rw (le-leb 97 b h)
 
-pub lower-down : (b : ℕ) → b < 97 → leb 97 b ≡ lower b
-lower-down b h = rw (lt-leb 97 b h)
+pub lower_down : (b : ℕ) → b < 97 → leb 97 b ≡ lower b
+lower_down b h = rw (lt-leb 97 b h)
 
-pub letter-lower : (b : ℕ) (r : Bool) → r ≡ lower b → r ≡ true → r ≡ letter b
-letter-lower b r e h = let l : lower b ≡ true = sym e ∙ h in h ∙ rw l
+pub letter_lower : (b : ℕ) (r : Bool) → r ≡ lower b → r ≡ true → r ≡ letter b
+letter_lower b r e h = let l : lower b ≡ true = sym e ∙ h in h ∙ rw l
 
-pub letter-digit : (b : ℕ) (r : Bool) → r ≡ lower b → r ≡ false → 48 ≤ b → leb b 57 ≡ letter b
-letter-digit b r e h l = let f : lower b ≡ false = sym e ∙ h in rw (f, le-leb 48 b l)
+pub letter_digit : (b : ℕ) (r : Bool) → r ≡ lower b → r ≡ false → 48 ≤ b → leb b 57 ≡ letter b
+letter_digit b r e h l = let f : lower b ≡ false = sym e ∙ h in rw (f, le-leb 48 b l)
 
-pub letter-none : (b : ℕ) (r : Bool) → r ≡ lower b → r ≡ false → b < 48 → leb 48 b ≡ letter b
-letter-none b r e h l = let f : lower b ≡ false = sym e ∙ h in rw (f, lt-leb 48 b l)
+pub letter_none : (b : ℕ) (r : Bool) → r ≡ lower b → r ≡ false → b < 48 → leb 48 b ≡ letter b
+letter_none b r e h l = let f : lower b ≡ false = sym e ∙ h in rw (f, lt-leb 48 b l)
 
 -- a letter is a byte that is not 0
-pub letter-byte : (b : ℕ) → letter b ≡ true → (0 < b) × (b < 256)
-letter-byte b h =
+pub letter_byte : (b : ℕ) → letter b ≡ true → (0 < b) × (b < 256)
+letter_byte b h =
     ⊎_elim (λ q. (omega (arith, q.0), omega (arith, q.1))) (λ q. (omega (arith, q.0), omega (arith, q.1)))
-    ((is-or (lower b) (andb (leb 48 b) (leb b 57)) (is-lower-law b) (is-and (leb 48 b) (leb b 57) (is_le 48 b) (is_le b 57))).to h)
+    ((is_or (lower b) (andb (leb 48 b) (leb b 57)) (is_lower_law b) (is_and (leb 48 b) (leb b 57) (is_le 48 b) (is_le b 57))).to h)
 
 module _ (s : List ℕ) where
   -- the text ends in a name
-  pub name-cut : (w i : ℕ) → i ≤ length s → length s ≤ i → (t : Spot) (σ : List Frame) → onward s (name (lettersOf w) t σ) i ≡ bad i
+  pub name_cut : (w i : ℕ) → i ≤ length s → length s ≤ i → (t : Spot) (σ : List Frame) → onward s (name (letters_of w) t σ) i ≡ bad i
   unfolding ending
-  name-cut w i l h t σ = stops s (name (lettersOf w) t σ) i l (λ b q. absurd (omega (arith, q.0))) (λ j. refl)
+  name_cut w i l h t σ = stops s (name (letters_of w) t σ) i l (λ b q. absurd (omega (arith, q.0))) (λ j. refl)
 
   module _ (w i : ℕ) (l : i < length s) (e : letter (get_or s i 0) ≡ true) where
-    pub name-ninth : full-name ≤ w → (t : Spot) (σ : List Frame) → onward s (name (lettersOf w) t σ) i ≡ bad i
+    pub name_ninth : full_name ≤ w → (t : Spot) (σ : List Frame) → onward s (name (letters_of w) t σ) i ≡ bad i
     unfolding step alive
-    name-ninth h t σ = looks s (name (lettersOf w) t σ) (l, refl) ∙ rw (e, viable-over w (get_or s i 0) h)
+    name_ninth h t σ = looks s (name (letters_of w) t σ) (l, refl) ∙ rw (e, viable_over w (get_or s i 0) h)
 
-    pub name-unviable : (x : ℕ) → x ≡ w * 256 + get_or s i 0 → viable (lettersOf x) ≡ false → (t : Spot) (σ : List Frame) → onward s (name (lettersOf w) t σ) i ≡ bad i
+    pub name_unviable : (x : ℕ) → x ≡ w * 256 + get_or s i 0 → viable (letters_of x) ≡ false → (t : Spot) (σ : List Frame) → onward s (name (letters_of w) t σ) i ≡ bad i
     unfolding step alive
-    name-unviable x q h t σ =
-        let p = letter-byte (get_or s i 0) e in
-        let v : viable (lettersOf w ++ (get_or s i 0 ∷ [])) ≡ false = ap viable (sym (letters-more w (get_or s i 0) p.0 p.1)) ∙ ap (λ (y : ℕ). viable (lettersOf y)) (sym q) ∙ h in
-        looks s (name (lettersOf w) t σ) (l, refl) ∙ rw (e, v)
+    name_unviable x q h t σ =
+        let p = letter_byte (get_or s i 0) e in
+        let v : viable (letters_of w ++ (get_or s i 0 ∷ [])) ≡ false = ap viable (sym (letters_more w (get_or s i 0) p.0 p.1)) ∙ ap (λ (y : ℕ). viable (letters_of y)) (sym q) ∙ h in
+        looks s (name (letters_of w) t σ) (l, refl) ∙ rw (e, v)
 
-    pub name-longer : (x : ℕ) → x ≡ w * 256 + get_or s i 0 → viable (lettersOf x) ≡ true → (t : Spot) (σ : List Frame) → onward s (name (lettersOf w) t σ) i ≡ onward s (name (lettersOf x) t σ) (i + 1)
+    pub name_longer : (x : ℕ) → x ≡ w * 256 + get_or s i 0 → viable (letters_of x) ≡ true → (t : Spot) (σ : List Frame) → onward s (name (letters_of w) t σ) i ≡ onward s (name (letters_of x) t σ) (i + 1)
     unfolding step out alive
-    name-longer x q h t σ =
-        let p = letter-byte (get_or s i 0) e in
-        let g : lettersOf x ≡ lettersOf w ++ (get_or s i 0 ∷ []) = ap lettersOf q ∙ letters-more w (get_or s i 0) p.0 p.1 in
-        let v : viable (lettersOf w ++ (get_or s i 0 ∷ [])) ≡ true = ap viable (sym g) ∙ h in
-        goes-still s (name (lettersOf w) t σ) (name (lettersOf w ++ (get_or s i 0 ∷ [])) t σ) (l, refl) (rw (e, v)) refl (rw e)
-        ∙ ap (λ (y : List ℕ). onward s (name y t σ) (suc i)) (sym g) ∙ ap (onward s (name (lettersOf x) t σ)) (sym (add-one i))
+    name_longer x q h t σ =
+        let p = letter_byte (get_or s i 0) e in
+        let g : letters_of x ≡ letters_of w ++ (get_or s i 0 ∷ []) = ap letters_of q ∙ letters_more w (get_or s i 0) p.0 p.1 in
+        let v : viable (letters_of w ++ (get_or s i 0 ∷ [])) ≡ true = ap viable (sym g) ∙ h in
+        goes_still s (name (letters_of w) t σ) (name (letters_of w ++ (get_or s i 0 ∷ [])) t σ) (l, refl) (rw (e, v)) refl (rw e)
+        ∙ ap (λ (y : List ℕ). onward s (name y t σ) (suc i)) (sym g) ∙ ap (onward s (name (letters_of x) t σ)) (sym (add-one i))
 
-    pub length-longer : (x : ℕ) → x ≡ w * 256 + get_or s i 0 → length (lettersOf x) ≡ length (lettersOf w) + 1
-    length-longer x q =
-        let p = letter-byte (get_or s i 0) e in
-        ap (λ (y : ℕ). length (lettersOf y)) q ∙ ap length (letters-more w (get_or s i 0) p.0 p.1) ∙ length-append (lettersOf w) (get_or s i 0 ∷ [])
+    pub length_longer : (x : ℕ) → x ≡ w * 256 + get_or s i 0 → length (letters_of x) ≡ length (letters_of w) + 1
+    length_longer x q =
+        let p = letter_byte (get_or s i 0) e in
+        ap (λ (y : ℕ). length (letters_of y)) q ∙ ap length (letters_more w (get_or s i 0) p.0 p.1) ∙ length-append (letters_of w) (get_or s i 0 ∷ [])
 
   -- ---- the end of a term
 
   module _ (last : Bool) (i : ℕ) where
-    pub ends-cut : length s ≤ i → EndsIs s last i false
-    ends-cut l t e = record { to = λ z. false-true z; from = λ h. none t h }
+    pub ends_cut : length s ≤ i → EndsIs s last i false
+    ends_cut l t e = record { to = λ z. false_true z; from = λ h. none t h }
       where
         none : (t : Spot) → Behind s t i → false ≡ true
         none (start c) h = absurd (omega (arith, h.2.0))
@@ -98,15 +98,15 @@ module _ (s : List ℕ) where
     pub ends_close : Byte s 41 i → EndsIs s last i last
     ends_close q t e = subst (λ (r : Bool). Is r (Behind s t i)) e (go t)
       where
-        no-blank : (b : ℕ) → blank b ≡ true → Byte s b i → ⊥
-        no-blank b h k = eqb-false b 41 (other blank b 41 h refl) (sym k.1 ∙ q.1)
+        no_blank : (b : ℕ) → blank b ≡ true → Byte s b i → ⊥
+        no_blank b h k = eqb-false b 41 (other blank b 41 h refl) (sym k.1 ∙ q.1)
 
         go : (t : Spot) → Is (last_of t) (Behind s t i)
-        go (start c) = record { to = λ z. false-true z; from = λ h. absurd (no-blank h.0 h.1 h.2) }
+        go (start c) = record { to = λ z. false_true z; from = λ h. absurd (no_blank h.0 h.1 h.2) }
         go (later c y) = record { to = λ z. inr q; from = λ h. refl }
 
-    pub ends-else : (r : Bool) → i < length s → ¬ (get_or s i 0 ≡ 41) → r ≡ blank (get_or s i 0) → EndsIs s last i r
-    ends-else r l f e t g = subst (λ (z : Bool). Is z (Behind s t i)) (sym e) (go t)
+    pub ends_else : (r : Bool) → i < length s → ¬ (get_or s i 0 ≡ 41) → r ≡ blank (get_or s i 0) → EndsIs s last i r
+    ends_else r l f e t g = subst (λ (z : Bool). Is z (Behind s t i)) (sym e) (go t)
       where
         go : (t : Spot) → Is (blank (get_or s i 0)) (Behind s t i)
         go (start c) = record { to = λ h. (get_or s i 0, h, (l, refl)); from = λ h. subst (λ (b : ℕ). blank b ≡ true) (sym h.2.1) h.1 }
@@ -117,101 +117,101 @@ module _ (s : List ℕ) where
             }
 
   -- a byte with which the term does not end
-  ending-byte : (x : Term) (t : Spot) (σ : List Frame) (b i : ℕ) → ¬ Behind s t i → Byte s b i
+  ending_byte : (x : Term) (t : Spot) (σ : List Frame) (b i : ℕ) → ¬ Behind s t i → Byte s b i
       → (blank b ≡ false) × (choose (eqb b 41) (closing x t σ) dead ≡ dead)
-  ending-byte x t σ b i f q = (no-blank (blank b) refl t f, no-close t f (eqb b 41) refl)
+  ending_byte x t σ b i f q = (no_blank (blank b) refl t f, no_close t f (eqb b 41) refl)
     where
-      no-blank : (c : Bool) → blank b ≡ c → (t : Spot) → ¬ Behind s t i → c ≡ false
-      no-blank true e (start c) f = absurd (f (b, e, q))
-      no-blank true e (later c y) f = absurd (f (inl (b, e, q)))
-      no-blank false e t f = refl
+      no_blank : (c : Bool) → blank b ≡ c → (t : Spot) → ¬ Behind s t i → c ≡ false
+      no_blank true e (start c) f = absurd (f (b, e, q))
+      no_blank true e (later c y) f = absurd (f (inl (b, e, q)))
+      no_blank false e t f = refl
 
-      no-close : (t : Spot) → ¬ Behind s t i → (c : Bool) → eqb b 41 ≡ c → choose c (closing x t σ) dead ≡ dead
-      no-close (start c) f true e = refl
-      no-close (later c y) f true e = absurd (f (inr (q.0, q.1 ∙ eqb-true b 41 e)))
-      no-close t f false e = refl
+      no_close : (t : Spot) → ¬ Behind s t i → (c : Bool) → eqb b 41 ≡ c → choose c (closing x t σ) dead ≡ dead
+      no_close (start c) f true e = refl
+      no_close (later c y) f true e = absurd (f (inr (q.0, q.1 ∙ eqb-true b 41 e)))
+      no_close t f false e = refl
 
   -- ---- `sep.nil`
 
   module _ (last : Bool) (i : ℕ) where
-    nil-unended : (t : Spot) (σ : List Frame) (j : ℕ) → j ≤ length s → ¬ Behind s t j → onward s (nil [] t σ) j ≡ bad j
+    nil_unended : (t : Spot) (σ : List Frame) (j : ℕ) → j ≤ length s → ¬ Behind s t j → onward s (nil [] t σ) j ≡ bad j
     unfolding step alive ending
-    nil-unended t σ j l f = stops s (nil [] t σ) j l (λ b q. let e = ending-byte nil-term t σ b j f q in rw (e.0, e.1)) (λ m. refl)
+    nil_unended t σ j l f = stops s (nil [] t σ) j l (λ b q. let e = ending_byte nil_term t σ b j f q in rw (e.0, e.1)) (λ m. refl)
 
-    pub nil-found : (j : ℕ) → SpelledIs s (bytes "nil") i (At j) → EndsIs s last j true → NilIs s last i (Reads j 0)
-    nil-found j k e = (three k.0, k.2, refl, λ t h σ. spells-nil s t σ k.0 ∙ run-nil s t σ j ((e t h).to refl))
+    pub nil_found : (j : ℕ) → SpelledIs s (bytes "nil") i (At j) → EndsIs s last j true → NilIs s last i (Reads j 0)
+    nil_found j k e = (three k.0, k.2, refl, λ t h σ. spells_nil s t σ k.0 ∙ run_nil s t σ j ((e t h).to refl))
       where
         three : {i j : ℕ} → Spelt s (bytes "nil") i j → i < j
         three (one_more q (one_more r (one_more u no_more))) = omega arith
 
-    pub nil-open : (j : ℕ) → SpelledIs s (bytes "nil") i (At j) → EndsIs s last j false → NilIs s last i (Wrong j)
-    nil-open j k e t h σ = spells-nil s t σ k.0 ∙ nil-unended t σ j k.2 (fails false (e t h) refl)
+    pub nil_open : (j : ℕ) → SpelledIs s (bytes "nil") i (At j) → EndsIs s last j false → NilIs s last i (Wrong j)
+    nil_open j k e t h σ = spells_nil s t σ k.0 ∙ nil_unended t σ j k.2 (fails false (e t h) refl)
 
-    pub nil-missed : (p : ℕ) → SpelledIs s (bytes "nil") i (Bad p) → NilIs s last i (Wrong p)
-    nil-missed p k t h σ = nil-misses s t σ k.0 k.1
+    pub nil_missed : (p : ℕ) → SpelledIs s (bytes "nil") i (Bad p) → NilIs s last i (Wrong p)
+    nil_missed p k t h σ = nil_misses s t σ k.0 k.1
 
   -- ---- behind the letters
 
   module _ (last : Bool) (w i : ℕ) (l : i < length s) (e : letter (get_or s i 0) ≡ false) where
-    pub dot-wrong : get_or s i 0 ≡ 46 → ¬ (w ≡ packed (spelling (joins sep-word))) → EndedIs s last w i (Wrong i)
+    pub dot_wrong : get_or s i 0 ≡ 46 → ¬ (w ≡ packed (spelling (joins sep_word))) → EndedIs s last w i (Wrong i)
     unfolding step alive
-    dot-wrong d f t h σ =
-        let n : sameBytes (spelling (joins sep-word)) (lettersOf w) ≡ false = refutes (sameBytes (spelling (joins sep-word)) (lettersOf w)) (is-same-bytes (spelling (joins sep-word)) (lettersOf w)) (λ q. f (sym (packed-letters w) ∙ ap packed (sym q))) in
-        looks s (name (lettersOf w) t σ) (l, d) ∙ rw n
+    dot_wrong d f t h σ =
+        let n : same_bytes (spelling (joins sep_word)) (letters_of w) ≡ false = refutes (same_bytes (spelling (joins sep_word)) (letters_of w)) (is_same_bytes (spelling (joins sep_word)) (letters_of w)) (λ q. f (sym (packed_letters w) ∙ ap packed (sym q))) in
+        looks s (name (letters_of w) t σ) (l, d) ∙ rw n
 
-    pub dot-nil : get_or s i 0 ≡ 46 → w ≡ packed (spelling (joins sep-word)) → (r : Found) → NilIs s last (i + 1) r → EndedIs s last w i r
+    pub dot_nil : get_or s i 0 ≡ 46 → w ≡ packed (spelling (joins sep_word)) → (r : Found) → NilIs s last (i + 1) r → EndedIs s last w i r
     unfolding step out alive emits
-    dot-nil d f r k = go r (subst (λ (j : ℕ). NilIs s last j r) (add-one i) k)
+    dot_nil d f r k = go r (subst (λ (j : ℕ). NilIs s last j r) (add-one i) k)
       where
-        dot : (t : Spot) (σ : List Frame) → onward s (name (lettersOf w) t σ) i ≡ onward s (nil (bytes "nil") t σ) (suc i)
+        dot : (t : Spot) (σ : List Frame) → onward s (name (letters_of w) t σ) i ≡ onward s (nil (bytes "nil") t σ) (suc i)
         dot t σ =
-            let n : sameBytes (spelling (joins sep-word)) (lettersOf w) ≡ true = (is-same-bytes (spelling (joins sep-word)) (lettersOf w)).from (sym (letters-word (joins sep-word) w f)) in
-            goes-still s (name (lettersOf w) t σ) (nil (bytes "nil") t σ) (l, d) (rw n) refl refl
+            let n : same_bytes (spelling (joins sep_word)) (letters_of w) ≡ true = (is_same_bytes (spelling (joins sep_word)) (letters_of w)).from (sym (letters_word (joins sep_word) w f)) in
+            goes_still s (name (letters_of w) t σ) (nil (bytes "nil") t σ) (l, d) (rw n) refl refl
 
         go : (r : Found) → NilIs s last (suc i) r → EndedIs s last w i r
         go (Reads j x) (lo, hi, z, q) =
-            (omega arith, hi, λ t h σ. dot t σ ∙ q t h σ ∙ ap (λ (y : ℕ). emits (seen (termOf y) (i - length (lettersOf w)) j) (onward s (termed (termOf y) t σ) j)) (sym z))
+            (omega arith, hi, λ t h σ. dot t σ ∙ q t h σ ∙ ap (λ (y : ℕ). emits (seen (term_of y) (i - length (letters_of w)) j) (onward s (termed (term_of y) t σ) j)) (sym z))
         go (Wrong p) q = λ t h σ. dot t σ ∙ q t h σ
 
-    pub word-wrong : ¬ (get_or s i 0 ≡ 46) → reserved (lettersOf w) ≡ true → EndedIs s last w i (Wrong i)
+    pub word_wrong : ¬ (get_or s i 0 ≡ 46) → reserved (letters_of w) ≡ true → EndedIs s last w i (Wrong i)
     unfolding step alive
-    word-wrong d r t h σ = looks s (name (lettersOf w) t σ) (l, refl) ∙ rw (e, ne_eqb (get_or s i 0) 46 d, r)
+    word_wrong d r t h σ = looks s (name (letters_of w) t σ) (l, refl) ∙ rw (e, ne_eqb (get_or s i 0) 46 d, r)
 
-    pub open-wrong : ¬ (get_or s i 0 ≡ 46) → reserved (lettersOf w) ≡ false → EndsIs s last i false → EndedIs s last w i (Wrong i)
+    pub open_wrong : ¬ (get_or s i 0 ≡ 46) → reserved (letters_of w) ≡ false → EndsIs s last i false → EndedIs s last w i (Wrong i)
     unfolding step alive
-    open-wrong d r f t h σ =
-        let k = ending-byte (name-term (lettersOf w)) t σ (get_or s i 0) i (fails false (f t h) refl) (l, refl) in
-        looks s (name (lettersOf w) t σ) (l, refl) ∙ rw (e, ne_eqb (get_or s i 0) 46 d, r, k.0, k.1)
+    open_wrong d r f t h σ =
+        let k = ending_byte (name_term (letters_of w)) t σ (get_or s i 0) i (fails false (f t h) refl) (l, refl) in
+        looks s (name (letters_of w) t σ) (l, refl) ∙ rw (e, ne_eqb (get_or s i 0) 46 d, r, k.0, k.1)
 
-    pub name-ended : 0 < w → reserved (lettersOf w) ≡ false → EndsIs s last i true → EndedIs s last w i (Reads i w)
-    name-ended z r f =
-        (omega arith, omega arith, λ t h σ. rw (ne_eqb w 0 (λ q. omega arith)) (run-name s (lettersOf w) t σ i r ((f t h).to refl)))
+    pub name_ended : 0 < w → reserved (letters_of w) ≡ false → EndsIs s last i true → EndedIs s last w i (Reads i w)
+    name_ended z r f =
+        (omega arith, omega arith, λ t h σ. rw (ne_eqb w 0 (λ q. omega arith)) (run_name s (letters_of w) t σ i r ((f t h).to refl)))
 
   -- ---- a term
 
-  pub no-term : (last : Bool) (i : ℕ) → i ≤ length s → ((b : ℕ) → Byte s b i → (blank b ≡ false) × (lower b ≡ false)) → TermIs s last i (Wrong i)
+  pub no_term : (last : Bool) (i : ℕ) → i ≤ length s → ((b : ℕ) → Byte s b i → (blank b ≡ false) × (lower b ≡ false)) → TermIs s last i (Wrong i)
   unfolding step alive ending
-  no-term last i l f t h σ = stops s (arg t σ) i l (λ b q. let e = f b q in rw (e.0, e.1)) (λ m. refl)
+  no_term last i l f t h σ = stops s (arg t σ) i l (λ b q. let e = f b q in rw (e.0, e.1)) (λ m. refl)
 
   module _ (i : ℕ) (l : i < length s) (n : blank (get_or s i 0) ≡ false) (e : lower (get_or s i 0) ≡ true) where
-    one-letter : lettersOf (get_or s i 0) ≡ get_or s i 0 ∷ []
-    unfolding lettersIn
-    one-letter =
-        let q = (is-lower-law (get_or s i 0)).to e in
+    one_letter : letters_of (get_or s i 0) ≡ get_or s i 0 ∷ []
+    unfolding letters_in
+    one_letter =
+        let q = (is_lower_law (get_or s i 0)).to e in
         let z : get_or s i 0 ≡ 0 * 256 + get_or s i 0 = omega arith in
-        ap lettersOf z ∙ letters-more 0 (get_or s i 0) (omega (arith, q.0)) (omega (arith, q.1))
+        ap letters_of z ∙ letters_more 0 (get_or s i 0) (omega (arith, q.0)) (omega (arith, q.1))
 
-    begins : (t : Spot) (σ : List Frame) → onward s (arg t σ) i ≡ onward s (name (lettersOf (get_or s i 0)) t σ) (i + 1)
+    begins : (t : Spot) (σ : List Frame) → onward s (arg t σ) i ≡ onward s (name (letters_of (get_or s i 0)) t σ) (i + 1)
     unfolding step out alive
     begins t σ =
-        goes-still s (arg t σ) (name (get_or s i 0 ∷ []) t σ) (l, refl) (rw (n, e)) refl refl
-        ∙ ap (λ (y : List ℕ). onward s (name y t σ) (suc i)) (sym one-letter) ∙ ap (onward s (name (lettersOf (get_or s i 0)) t σ)) (sym (add-one i))
+        goes_still s (arg t σ) (name (get_or s i 0 ∷ []) t σ) (l, refl) (rw (n, e)) refl refl
+        ∙ ap (λ (y : List ℕ). onward s (name y t σ) (suc i)) (sym one_letter) ∙ ap (onward s (name (letters_of (get_or s i 0)) t σ)) (sym (add-one i))
 
-    pub term-wrong : (last : Bool) (p : ℕ) → LettersIs s (get_or s i 0) (i + 1) (Wrong p) → TermIs s last i (Wrong p)
-    term-wrong last p q t h σ = begins t σ ∙ q t σ
+    pub term_wrong : (last : Bool) (p : ℕ) → LettersIs s (get_or s i 0) (i + 1) (Wrong p) → TermIs s last i (Wrong p)
+    term_wrong last p q t h σ = begins t σ ∙ q t σ
 
-    pub term-ended : (last : Bool) (w j : ℕ) (r : Found) → LettersIs s (get_or s i 0) (i + 1) (Reads j w) → EndedIs s last w j r → TermIs s last i r
-    term-ended last w j (Reads k x) (lo, hi, some, end, long, q) (from, upto, f) =
-        let first : j - length (lettersOf w) ≡ i = omega (arith, long, ap length one-letter) in
-        (omega arith, upto, λ t h σ. begins t σ ∙ q t σ ∙ f t h σ ∙ ap (λ (m : ℕ). emits (seen (termOf x) m k) (onward s (termed (termOf x) t σ) k)) first)
-    term-ended last w j (Wrong p) (lo, hi, some, end, long, q) f = λ t h σ. begins t σ ∙ q t σ ∙ f t h σ
+    pub term_ended : (last : Bool) (w j : ℕ) (r : Found) → LettersIs s (get_or s i 0) (i + 1) (Reads j w) → EndedIs s last w j r → TermIs s last i r
+    term_ended last w j (Reads k x) (lo, hi, some, end, long, q) (from, upto, f) =
+        let first : j - length (letters_of w) ≡ i = omega (arith, long, ap length one_letter) in
+        (omega arith, upto, λ t h σ. begins t σ ∙ q t σ ∙ f t h σ ∙ ap (λ (m : ℕ). emits (seen (term_of x) m k) (onward s (termed (term_of x) t σ) k)) first)
+    term_ended last w j (Wrong p) (lo, hi, some, end, long, q) f = λ t h σ. begins t σ ∙ q t σ ∙ f t h σ

@@ -2,11 +2,11 @@
 use Rattle.std.specs.Prelude.{◌≡◌, Bool, true, false, List, ℕ, ◌+◌, ◌-◌, ◌≤◌, ◌<◌, length, get_or}
 use Rattle.grammar.specs.Steps.{onward}
 use Rattle.logic.specs.Reflect.{Is}
-use Rattle.grammar.specs.Phrase.{bytes, nil-term, letter}
+use Rattle.grammar.specs.Phrase.{bytes, nil_term, letter}
 use Rattle.grammar.specs.Grammar.{seen}
 use Rattle.grammar.specs.Machine.{Frame, Spot, start, later, arg, name, nil, termed, bad, emits}
 use Rattle.grammar.specs.Forward.{Behind}
-use Rattle.terms.specs.Letters.{lettersOf, termOf}
+use Rattle.terms.specs.Letters.{letters_of, term_of}
 use Rattle.terms.specs.declared.Found.{Found}
 use Rattle.terms.specs.declared.Found.TheVariants.{Term as Reads, Wrong}
 
@@ -19,9 +19,9 @@ module _ (s : List ℕ) where
   -- the letters w go on from i up to j, where a byte stands that is no letter
   abbrev pub LettersIs : ℕ → ℕ → Found → Type 0
   LettersIs w i (Reads j x) =
-      (i ≤ j) × (j < length s) × (0 < x) × (letter (get_or s j 0) ≡ false) × (j + length (lettersOf w) ≡ i + length (lettersOf x))
-      × ((t : Spot) (σ : List Frame) → onward s (name (lettersOf w) t σ) i ≡ onward s (name (lettersOf x) t σ) j)
-  LettersIs w i (Wrong p) = (t : Spot) (σ : List Frame) → onward s (name (lettersOf w) t σ) i ≡ bad p
+      (i ≤ j) × (j < length s) × (0 < x) × (letter (get_or s j 0) ≡ false) × (j + length (letters_of w) ≡ i + length (letters_of x))
+      × ((t : Spot) (σ : List Frame) → onward s (name (letters_of w) t σ) i ≡ onward s (name (letters_of x) t σ) j)
+  LettersIs w i (Wrong p) = (t : Spot) (σ : List Frame) → onward s (name (letters_of w) t σ) i ≡ bad p
 
   -- in such a spot
   module _ (last : Bool) where
@@ -33,7 +33,7 @@ module _ (s : List ℕ) where
     abbrev pub NilIs : ℕ → Found → Type 0
     NilIs i (Reads j w) =
         (i < j) × (j ≤ length s) × (w ≡ 0)
-        × ((t : Spot) → last_of t ≡ last → (σ : List Frame) → onward s (nil (bytes "nil") t σ) i ≡ onward s (termed nil-term t σ) j)
+        × ((t : Spot) → last_of t ≡ last → (σ : List Frame) → onward s (nil (bytes "nil") t σ) i ≡ onward s (termed nil_term t σ) j)
     NilIs i (Wrong p) = (t : Spot) → last_of t ≡ last → (σ : List Frame) → onward s (nil (bytes "nil") t σ) i ≡ bad p
 
     -- the term whose letters w end before i, or `sep.nil`, ends before j
@@ -41,12 +41,12 @@ module _ (s : List ℕ) where
     EndedIs w i (Reads j x) =
         (i ≤ j) × (j ≤ length s)
         × ((t : Spot) → last_of t ≡ last → (σ : List Frame)
-        → onward s (name (lettersOf w) t σ) i ≡ emits (seen (termOf x) (i - length (lettersOf w)) j) (onward s (termed (termOf x) t σ) j))
-    EndedIs w i (Wrong p) = (t : Spot) → last_of t ≡ last → (σ : List Frame) → onward s (name (lettersOf w) t σ) i ≡ bad p
+        → onward s (name (letters_of w) t σ) i ≡ emits (seen (term_of x) (i - length (letters_of w)) j) (onward s (termed (term_of x) t σ) j))
+    EndedIs w i (Wrong p) = (t : Spot) → last_of t ≡ last → (σ : List Frame) → onward s (name (letters_of w) t σ) i ≡ bad p
 
     -- a term from i up to j
     abbrev pub TermIs : ℕ → Found → Type 0
     TermIs i (Reads j w) =
         (i < j) × (j ≤ length s)
-        × ((t : Spot) → last_of t ≡ last → (σ : List Frame) → onward s (arg t σ) i ≡ emits (seen (termOf w) i j) (onward s (termed (termOf w) t σ) j))
+        × ((t : Spot) → last_of t ≡ last → (σ : List Frame) → onward s (arg t σ) i ≡ emits (seen (term_of w) i j) (onward s (termed (term_of w) t σ) j))
     TermIs i (Wrong p) = (t : Spot) → last_of t ≡ last → (σ : List Frame) → onward s (arg t σ) i ≡ bad p

@@ -2,8 +2,8 @@
 ghost use Rattle.std.specs.Prelude.{◌≡◌, false, ℕ, ◌<◌, ◌≤◌, length, get_or};
 ghost use Rattle.grammar.specs.Phrase.{lower, letter};
 ghost use Rattle.grammar.specs.Grammar.{blank, Byte};
-ghost use Rattle.grammar.specs.Machine.{reserved, viable as viableOf};
-ghost use Rattle.terms.specs.Letters.{lettersOf};
+ghost use Rattle.grammar.specs.Machine.{reserved, viable as viable_of};
+ghost use Rattle.terms.specs.Letters.{letters_of};
 ghost use Rattle.terms.specs.Terms.{EndsIs, LettersIs, NilIs, EndedIs, TermIs};
 
 use leaves::long;
@@ -41,7 +41,7 @@ fn is_letter(b: u8) -> bool
 
 // Whether the number holds one of the nine words.
 fn is_word(w: u64) -> bool
-    ensures { result ≡ reserved (lettersOf w) }
+    ensures { result ≡ reserved (letters_of w) }
 {
     match w {
         6385252 => true,
@@ -59,7 +59,7 @@ fn is_word(w: u64) -> bool
 
 // Whether some name begins with these letters.
 fn viable(w: u64) -> bool
-    ensures { result ≡ viableOf (lettersOf w) }
+    ensures { result ≡ viable_of (letters_of w) }
 {
     if w < EIGHT_LETTERS {
         return true;

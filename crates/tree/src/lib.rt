@@ -4,7 +4,7 @@ ghost use Rattle.std.specs.Prelude.{◌<◌, ◌≤◌};
 ghost use Rattle.logic.specs.Checks.{Answers, upto};
 ghost use Rattle.logic.specs.CheckLaws.{Yes};
 ghost use Rattle.logic.specs.Table.{Sound};
-ghost use Rattle.logic.specs.Book.{mostNodes, useChecks, nodes, root};
+ghost use Rattle.logic.specs.Book.{most_nodes, use_checks, nodes, root};
 
 use leaves::answer_of;
 use logic::Answer;
@@ -12,8 +12,8 @@ use uses::count;
 
 // Every node but the root is the child of exactly one node, once. Where the root is alone there is nothing to count.
 pub fn one_parent(f: &[u8], v: u8) -> Answer
-    requires { (0 < nodes f.now) × (nodes f.now ≤ mostNodes) × Sound v f.now (nodes f.now) }
-    ensures { Answers (upto (useChecks f.now) (root f.now)) Yes result }
+    requires { (0 < nodes f.now) × (nodes f.now ≤ most_nodes) × Sound v f.now (nodes f.now) }
+    ensures { Answers (upto (use_checks f.now) (root f.now)) Yes result }
 {
     let last = f.len() / 3 - 1;
     if last == 0 {

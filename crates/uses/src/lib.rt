@@ -1,7 +1,7 @@
 // How often each node of a formula is a child, by one walk over the nodes.
 ghost use Rattle.std.specs.Prelude.{◌≡◌, ℕ, ◌+◌, ◌*◌, ◌<◌, ◌≤◌, length, get_or};
 ghost use Rattle.logic.specs.Table.{NodeOk, Sound, uses};
-ghost use Rattle.logic.specs.Book.{mostNodes, nodes};
+ghost use Rattle.logic.specs.Book.{most_nodes, nodes};
 ghost use Rattle.uses.specs.Counts.{OneMore, NodeMore};
 
 use leaves::wide;
@@ -19,7 +19,7 @@ fn tally(t: &mut [u8], x: u8)
 
 // Node j's children are used once more.
 fn uses_by(f: &[u8], v: u8, j: usize, t: &mut [u8])
-    requires { (3 * j + 2 < length f.now) × NodeOk v f.now j × (j < mostNodes) × (mostNodes ≤ length t.old) × ((k : ℕ) → get_or t.old k 0 ≤ 2 * j) }
+    requires { (3 * j + 2 < length f.now) × NodeOk v f.now j × (j < most_nodes) × (most_nodes ≤ length t.old) × ((k : ℕ) → get_or t.old k 0 ≤ 2 * j) }
     ensures { NodeMore f.now j t.old t.new }
 {
     let op = f[3 * j];
@@ -37,7 +37,7 @@ fn uses_by(f: &[u8], v: u8, j: usize, t: &mut [u8])
 
 // How often each node is a child, in one walk.
 pub fn count(f: &[u8], v: u8) -> [u8; NODES]
-    requires { (nodes f.now ≤ mostNodes) × Sound v f.now (nodes f.now) }
+    requires { (nodes f.now ≤ most_nodes) × Sound v f.now (nodes f.now) }
     ensures { (k : ℕ) → get_or result k 0 ≡ uses f.now (nodes f.now) k }
 {
     let n = f.len() / 3;

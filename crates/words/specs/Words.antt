@@ -1,9 +1,9 @@
 -- What the readers of blanks, edges, brackets and words find. Assumes nothing: these are definitions.
 use Rattle.std.specs.Prelude.{◌≡◌, true, false, List, [], ◌∷◌, ℕ, suc, ◌-◌, ◌≤◌, ◌<◌, ltb, length, get_or, drop}
 use Rattle.grammar.specs.Steps.{onward, waits}
-use Rattle.grammar.specs.Phrase.{Word, joins, denies, relates, Phrase, emp, spelling, sep-emp, sep-nil, choose}
-use Rattle.grammar.specs.Phrase.Join.{and_word, or_word, sep-word, wand-word}
-use Rattle.grammar.specs.Phrase.Atom.{equal_word, distinct-word, pto-word, ls-word}
+use Rattle.grammar.specs.Phrase.{Word, joins, denies, relates, Phrase, emp, spelling, sep_emp, sep_nil, choose}
+use Rattle.grammar.specs.Phrase.Join.{and_word, or_word, sep_word, wand_word}
+use Rattle.grammar.specs.Phrase.Atom.{equal_word, distinct_word, pto_word, ls_word}
 use Rattle.grammar.specs.Grammar.{finished, blank, Byte, Spelt, Blanks}
 use Rattle.grammar.specs.Machine.{Frame, item, head, word, shut, dead, words, begun, past, own, bad, emits}
 use Rattle.words.specs.declared.Next.{Next}
@@ -18,9 +18,9 @@ word_of k = get_or words k denies
 -- the nine words by their numbers, then `sep.emp` and `sep.nil`
 abbrev pub spellings : List (List ℕ)
 spellings =
-    spelling (joins and_word) ∷ spelling (joins or_word) ∷ spelling (joins sep-word) ∷ spelling (joins wand-word) ∷ spelling denies ∷
-    spelling (relates equal_word) ∷ spelling (relates distinct-word) ∷ spelling (relates pto-word) ∷ spelling (relates ls-word) ∷
-    sep-emp ∷ sep-nil ∷ []
+    spelling (joins and_word) ∷ spelling (joins or_word) ∷ spelling (joins sep_word) ∷ spelling (joins wand_word) ∷ spelling denies ∷
+    spelling (relates equal_word) ∷ spelling (relates distinct_word) ∷ spelling (relates pto_word) ∷ spelling (relates ls_word) ∷
+    sep_emp ∷ sep_nil ∷ []
 
 -- b begins the word of number k; where k is 9, none
 abbrev pub Begins : ℕ → ℕ → Type 0

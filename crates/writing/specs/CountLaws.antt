@@ -1,15 +1,15 @@
 -- A written formula has as many names as variables are known among them. Assumes nothing.
 use Rattle.std.specs.Prelude.{◌≡◌, refl, Bool, true, false, List, [], ◌∷◌, ◌++◌, ℕ, zero, suc, ◌+◌, ◌<◌, length, get_or}
 use Rattle.std.proofs.Common.{sym, ap, subst, ⊎_elim, eq-or-lt_of_le, le_of_suc-le-suc, arith, length-append}
-use Rattle.logic.specs.Reflect.{is-same-bytes, refutes}
-use Rattle.logic.specs.Tests.{orb, pick, sameBytes}
-use Rattle.grammar.specs.Phrase.{choose, Term, name-term, Phrase, emp, join, deny, relate}
+use Rattle.logic.specs.Reflect.{is_same_bytes, refutes}
+use Rattle.logic.specs.Tests.{orb, pick, same_bytes}
+use Rattle.grammar.specs.Phrase.{choose, Term, name_term, Phrase, emp, join, deny, relate}
 use Rattle.grammar.specs.Places.{known, note}
-use Rattle.grammar.specs.Meaning.{noteTerm, collect}
-use Rattle.grammar.specs.NumberLaws.{term-note}
-use Rattle.writing.specs.Writing.{figureOf, name_of}
+use Rattle.grammar.specs.Meaning.{note_term, collect}
+use Rattle.grammar.specs.NumberLaws.{term_note}
+use Rattle.writing.specs.Writing.{figure_of, name_of}
 use Rattle.writing.specs.WritingLaws.{EachTerm}
-use Rattle.writing.specs.TermLaws.{Variable, is-variable}
+use Rattle.writing.specs.TermLaws.{Variable, is_variable}
 
 -- ---- how many of k numbers have a property
 
@@ -22,42 +22,42 @@ unfolding count
 count_none zero P h = refl
 count_none (suc k) P h = rw (h k) (omega (arith, count_none k P h))
 
-pub count-all : (k : ℕ) (P : ℕ → Bool) → ((i : ℕ) → i < k → P i ≡ true) → count k P ≡ k
+pub count_all : (k : ℕ) (P : ℕ → Bool) → ((i : ℕ) → i < k → P i ≡ true) → count k P ≡ k
 unfolding count
-count-all zero P h = refl
-count-all (suc k) P h = rw (h k (omega arith)) (omega (arith, count-all k P (λ i l. h i (omega arith))))
+count_all zero P h = refl
+count_all (suc k) P h = rw (h k (omega arith)) (omega (arith, count_all k P (λ i l. h i (omega arith))))
 
 count_same : (k : ℕ) (P Q : ℕ → Bool) → ((i : ℕ) → i < k → Q i ≡ P i) → count k Q ≡ count k P
 unfolding count
 count_same zero P Q h = refl
 count_same (suc k) P Q h = rw (h k (omega arith)) (ap (λ (z : ℕ). pick (P k) 1 0 + z) (count_same k P Q (λ i l. h i (omega arith))))
 
-count-one-more : (k i : ℕ) (P Q : ℕ → Bool) → i < k → P i ≡ false → Q i ≡ true → ((j : ℕ) → ¬ (j ≡ i) → Q j ≡ P j) → count k Q ≡ suc (count k P)
+count_one_more : (k i : ℕ) (P Q : ℕ → Bool) → i < k → P i ≡ false → Q i ≡ true → ((j : ℕ) → ¬ (j ≡ i) → Q j ≡ P j) → count k Q ≡ suc (count k P)
 unfolding count
-count-one-more zero i P Q l p q h = absurd (omega arith)
-count-one-more (suc k) i P Q l p q h =
+count_one_more zero i P Q l p q h = absurd (omega arith)
+count_one_more (suc k) i P Q l p q h =
     ⊎_elim
     (λ (e : i ≡ k).
     let pk : P k ≡ false = subst (λ (j : ℕ). P j ≡ false) e p in
     let qk : Q k ≡ true = subst (λ (j : ℕ). Q j ≡ true) e q in
     rw (pk, qk) (omega (arith, count_same k P Q (λ j m. h j (λ z. omega arith)))))
-    (λ (m : i < k). rw (h k (λ z. omega arith)) (omega (arith, count-one-more k i P Q m p q h))) (eq-or-lt_of_le (le_of_suc-le-suc l))
+    (λ (m : i < k). rw (h k (λ z. omega arith)) (omega (arith, count_one_more k i P Q m p q h))) (eq-or-lt_of_le (le_of_suc-le-suc l))
 
 -- ---- as many names as known variables
 
-pub name-one : (i j : ℕ) → name_of i ≡ name_of j → i ≡ j
-name-one i j e = let z : figureOf i ≡ figureOf j = ap (λ (x : List ℕ). get_or x 1 0) e in omega arith
+pub name_one : (i j : ℕ) → name_of i ≡ name_of j → i ≡ j
+name_one i j e = let z : figure_of i ≡ figure_of j = ap (λ (x : List ℕ). get_or x 1 0) e in omega arith
 
-known-other : (ns : List (List ℕ)) (x y : List ℕ) → ¬ (x ≡ y) → known (ns ++ (x ∷ [])) y ≡ known ns y
+known_other : (ns : List (List ℕ)) (x y : List ℕ) → ¬ (x ≡ y) → known (ns ++ (x ∷ [])) y ≡ known ns y
 unfolding known
-known-other [] x y n = rw (refutes (sameBytes x y) (is-same-bytes x y) n)
-known-other (z ∷ ns) x y n = ap (orb (sameBytes z y)) (known-other ns x y n)
+known_other [] x y n = rw (refutes (same_bytes x y) (is_same_bytes x y) n)
+known_other (z ∷ ns) x y n = ap (orb (same_bytes z y)) (known_other ns x y n)
 
 abbrev pub Counted : ℕ → List (List ℕ) → Type 0
 Counted v ns = length ns ≡ count v (λ i. known ns (name_of i))
 
-counted-note : (v i : ℕ) (ns : List (List ℕ)) → i < v → Counted v ns → Counted v (note ns (name_of i))
-counted-note v i ns l h = go (known ns (name_of i)) refl (term-note ns (name-term (name_of i)))
+counted_note : (v i : ℕ) (ns : List (List ℕ)) → i < v → Counted v ns → Counted v (note ns (name_of i))
+counted_note v i ns l h = go (known ns (name_of i)) refl (term_note ns (name_term (name_of i)))
   where
     go : (c : Bool) → known ns (name_of i) ≡ c → known (choose c ns (ns ++ (name_of i ∷ []))) (name_of i) ≡ true → Counted v (choose c ns (ns ++ (name_of i ∷ [])))
     go true e t = h
@@ -66,16 +66,16 @@ counted-note v i ns l h = go (known ns (name_of i)) refl (term-note ns (name-ter
           arith,
           h,
           length-append ns (name_of i ∷ []),
-          count-one-more v i (λ j. known ns (name_of j)) (λ j. known (ns ++ (name_of i ∷ [])) (name_of j)) l e t (λ j n. known-other ns (name_of i) (name_of j) (λ z. n (sym (name-one i j z)))),
+          count_one_more v i (λ j. known ns (name_of j)) (λ j. known (ns ++ (name_of i ∷ [])) (name_of j)) l e t (λ j n. known_other ns (name_of i) (name_of j) (λ z. n (sym (name_one i j z)))),
         )
 
-counted-term : (v : ℕ) (t : Term) (ns : List (List ℕ)) → Variable v t → Counted v ns → Counted v (noteTerm ns t)
-counted-term v t ns (is-variable zero l) h = h
-counted-term v t ns (is-variable (suc i) l) h = counted-note v i ns l h
+counted_term : (v : ℕ) (t : Term) (ns : List (List ℕ)) → Variable v t → Counted v ns → Counted v (note_term ns t)
+counted_term v t ns (is_variable zero l) h = h
+counted_term v t ns (is_variable (suc i) l) h = counted_note v i ns l h
 
-pub counted-collect : (v : ℕ) (P : Phrase) (ns : List (List ℕ)) → EachTerm (Variable v) P → Counted v ns → Counted v (collect ns P)
+pub counted_collect : (v : ℕ) (P : Phrase) (ns : List (List ℕ)) → EachTerm (Variable v) P → Counted v ns → Counted v (collect ns P)
 unfolding EachTerm collect
-counted-collect v emp ns q h = h
-counted-collect v (join c F G) ns q h = counted-collect v G (collect ns F) q.1 (counted-collect v F ns q.0 h)
-counted-collect v (deny F) ns q h = counted-collect v F ns q h
-counted-collect v (relate c x y) ns q h = counted-term v y (noteTerm ns x) q.1 (counted-term v x ns q.0 h)
+counted_collect v emp ns q h = h
+counted_collect v (join c F G) ns q h = counted_collect v G (collect ns F) q.1 (counted_collect v F ns q.0 h)
+counted_collect v (deny F) ns q h = counted_collect v F ns q h
+counted_collect v (relate c x y) ns q h = counted_term v y (note_term ns x) q.1 (counted_term v x ns q.0 h)

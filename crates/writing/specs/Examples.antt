@@ -3,24 +3,24 @@ use Rattle.std.specs.Prelude.{◌≡◌, refl, Bool, true, List, [], ◌∷◌, 
 use Rattle.std.proofs.Common.{ap, ◌∙◌, arith}
 use Rattle.logic.specs.declared.Profile.TheVariants.{Strong}
 use Rattle.logic.specs.declared.Answer.{Answer}
-use Rattle.logic.specs.Numbers.{answer, yes-number, no_number, output-length}
-use Rattle.logic.specs.Tests.{andb, sameBytes, any, all, digit, inPart, heapOf, part, rest, union, without, named, empty, is_value, inLocs, within, apartAt, apart, points, chain, stepped, pathFrom, short, sepAt, septAt}
+use Rattle.logic.specs.Numbers.{answer, yes_number, no_number, output_length}
+use Rattle.logic.specs.Tests.{andb, same_bytes, any, all, digit, in_part, heap_of, part, rest, union, without, named, empty, is_value, in_locs, within, apart_at, apart, points, chain, stepped, path_from, short, sep_at, sept_at}
 use Rattle.logic.specs.Truth.{truth}
-use Rattle.logic.specs.Reflect.{is-and, is-same-bytes}
-use Rattle.logic.specs.Table.{kind_of, uses, tree, deep, form_of as nodeForm, atomOf, join_of, joinFrom5}
-use Rattle.logic.specs.Book.{head_of, varsOf}
-use Rattle.logic.specs.Model.{stackIn, heapIn}
-use Rattle.logic.specs.Computed.{laidOut, boundsOk, formulaOk, operandOk, nodeOk, tableOk, accepted, modelOk, fitsBook}
-use Rattle.logic.specs.ComputedLaws.{is-accepted}
+use Rattle.logic.specs.Reflect.{is_and, is_same_bytes}
+use Rattle.logic.specs.Table.{kind_of, uses, tree, deep, form_of as node_form, atom_of, join_of, join_from5}
+use Rattle.logic.specs.Book.{head_of, vars_of}
+use Rattle.logic.specs.Model.{stack_in, heap_in}
+use Rattle.logic.specs.Computed.{laid_out, bounds_ok, formula_ok, operand_ok, node_ok, table_ok, accepted, model_ok, fits_book}
+use Rattle.logic.specs.ComputedLaws.{is_accepted}
 use Rattle.logic.specs.Entries.{every, entry_of}
-use Rattle.logic.specs.JudgeExamples.{JudgedRight, judgedTest, judged-right}
+use Rattle.logic.specs.JudgeExamples.{JudgedRight, judged_test, judged_right}
 use Rattle.grammar.specs.Phrase.{bytes}
 use Rattle.grammar.specs.Places.{known}
-use Rattle.grammar.specs.Listing.{size_of, listing, bookOf}
+use Rattle.grammar.specs.Listing.{size_of, listing, book_of}
 use Rattle.grammar.specs.Meaning.{collect, position, form_of}
-use Rattle.writing.specs.Writing.{phraseOf, write, text_of, Exports}
-use Rattle.writing.specs.ExportLaws.{exports-single, exports-written, exports-short}
-use Rattle.writing.specs.Matching.{bookAgain, renumbered}
+use Rattle.writing.specs.Writing.{phrase_of, write, text_of, Exports}
+use Rattle.writing.specs.ExportLaws.{exports_single, exports_written, exports_short}
+use Rattle.writing.specs.Matching.{book_again, renumbered}
 
 -- a book and its text
 pub record Example : Type 0 where
@@ -52,25 +52,25 @@ rows =
 abbrev pub Right : Example → Type 0
 Right w =
     (o : List ℕ) (a : Answer) (o' : List ℕ) → Exports w.book o a o'
-    → (length w.text ≤ length o → (a ≡ answer yes-number 0) × (o' ≡ w.text ++ drop (length w.text) o))
-    × (length o < length w.text → (a ≡ answer output-length 0) × (o' ≡ o))
+    → (length w.text ≤ length o → (a ≡ answer yes_number 0) × (o' ≡ w.text ++ drop (length w.text) o))
+    × (length o < length w.text → (a ≡ answer output_length 0) × (o' ≡ o))
 
 test : ℕ → Example → Bool
-test i w = andb (accepted w.book) (sameBytes (text_of w.book) w.text)
+test i w = andb (accepted w.book) (same_bytes (text_of w.book) w.text)
 
 right : (i : ℕ) (w : Example) → test i w ≡ true → Right w
 unfolding test
 right i w e o a o' x =
     let s = w.book in
-    let t = (is-and (accepted s) (sameBytes (text_of s) w.text) (is-accepted s) (is-same-bytes (text_of s) w.text)).to e in
+    let t = (is_and (accepted s) (same_bytes (text_of s) w.text) (is_accepted s) (is_same_bytes (text_of s) w.text)).to e in
     let long = ap length t.1 in (
-      λ l. let z = exports-single s o a (answer yes-number 0) o' _ x (exports-written s o t.0 (omega (arith, long, l))) in
+      λ l. let z = exports_single s o a (answer yes_number 0) o' _ x (exports_written s o t.0 (omega (arith, long, l))) in
           (z.0, z.1 ∙ ap (λ (y : List ℕ). y ++ drop (length y) o) t.1),
-      λ l. exports-single s o a (answer output-length 0) o' o x (exports-short s o t.0 (omega (arith, long, l))),
+      λ l. exports_single s o a (answer output_length 0) o' o x (exports_short s o t.0 (omega (arith, long, l))),
     )
 
 all_right : every test 0 rows ≡ true
-unfolding rows writing test every sameBytes accepted laidOut boundsOk formulaOk nodeOk operandOk tableOk any all kind_of uses text_of write phraseOf tree deep nodeForm atomOf join_of joinFrom5
+unfolding rows writing test every same_bytes accepted laid_out bounds_ok formula_ok node_ok operand_ok table_ok any all kind_of uses text_of write phrase_of tree deep node_form atom_of join_of join_from5
 all_right = refl
 
 pub examples : (k : ℕ) (w : Example) → k < length rows → Right (get_or rows k w)
@@ -82,9 +82,9 @@ examples k w l = right k (get_or rows k w) (entry_of w test rows all_right k l)
 abbrev turned : List ℕ
 turned = head_of 2 2 2 2 3 ++ (3 ∷ 2 ∷ 1 ∷ [])
 
-pub turned-again : (renumbered turned 1 ≡ 2) × (renumbered turned 2 ≡ 1) × (bookAgain turned ≡ head_of 2 2 2 2 3 ++ (3 ∷ 1 ∷ 2 ∷ []))
-unfolding bookOf size_of listing known collect position sameBytes form_of phraseOf tree deep nodeForm atomOf join_of joinFrom5
-turned-again = (refl, refl, refl)
+pub turned_again : (renumbered turned 1 ≡ 2) × (renumbered turned 2 ≡ 1) × (book_again turned ≡ head_of 2 2 2 2 3 ++ (3 ∷ 1 ∷ 2 ∷ []))
+unfolding book_of size_of listing known collect position same_bytes form_of phrase_of tree deep node_form atom_of join_of join_from5
+turned_again = (refl, refl, refl)
 
 -- ---- why every declared variable has to be named by an atom
 
@@ -93,15 +93,15 @@ abbrev p8 : List ℕ
 p8 = head_of 2 3 3 3 15 ++ meet
 
 -- its text has no name, and is read as a book without variables
-pub p8-again : (varsOf p8 ≡ 3) × (varsOf (bookAgain p8) ≡ 0)
-unfolding bookOf size_of listing collect position form_of phraseOf tree deep nodeForm atomOf join_of joinFrom5
-p8-again = (refl, refl)
+pub p8_again : (vars_of p8 ≡ 3) × (vars_of (book_again p8) ≡ 0)
+unfolding book_of size_of listing collect position form_of phrase_of tree deep node_form atom_of join_of join_from5
+p8_again = (refl, refl)
 
 -- so the two parts 1 → 3 and 2 → 3, which meet where the third variable is, meet nowhere that is named
-pub p8-fits : JudgedRight (record { profile = Strong; book = p8; model = 1 ∷ 2 ∷ 3 ∷ 3 ∷ 3 ∷ 255 ∷ []; number = yes-number })
-unfolding judgedTest accepted laidOut boundsOk formulaOk nodeOk operandOk tableOk modelOk fitsBook short pathFrom stepped stackIn heapIn truth any all digit inPart heapOf part rest union without named empty is_value inLocs within apartAt apart points chain sepAt septAt kind_of uses tree deep nodeForm atomOf join_of joinFrom5
-p8-fits = judged-right _ refl
+pub p8_fits : JudgedRight (record { profile = Strong; book = p8; model = 1 ∷ 2 ∷ 3 ∷ 3 ∷ 3 ∷ 255 ∷ []; number = yes_number })
+unfolding judged_test accepted laid_out bounds_ok formula_ok node_ok operand_ok table_ok model_ok fits_book short path_from stepped stack_in heap_in truth any all digit in_part heap_of part rest union without named empty is_value in_locs within apart_at apart points chain sep_at sept_at kind_of uses tree deep node_form atom_of join_of join_from5
+p8_fits = judged_right _ refl
 
-pub p8-again-fits-not : JudgedRight (record { profile = Strong; book = bookAgain p8; model = 3 ∷ 3 ∷ 255 ∷ []; number = no_number })
-unfolding bookOf size_of listing collect position form_of phraseOf judgedTest accepted laidOut boundsOk formulaOk nodeOk operandOk tableOk modelOk fitsBook short pathFrom stepped stackIn heapIn truth any all digit inPart heapOf part rest union without named empty is_value inLocs within apartAt apart points chain sepAt septAt kind_of uses tree deep nodeForm atomOf join_of joinFrom5
-p8-again-fits-not = judged-right _ refl
+pub p8_again_fits_not : JudgedRight (record { profile = Strong; book = book_again p8; model = 3 ∷ 3 ∷ 255 ∷ []; number = no_number })
+unfolding book_of size_of listing collect position form_of phrase_of judged_test accepted laid_out bounds_ok formula_ok node_ok operand_ok table_ok model_ok fits_book short path_from stepped stack_in heap_in truth any all digit in_part heap_of part rest union without named empty is_value in_locs within apart_at apart points chain sep_at sept_at kind_of uses tree deep node_form atom_of join_of join_from5
+p8_again_fits_not = judged_right _ refl

@@ -5,46 +5,46 @@ use Rattle.std.proofs.Common.{arith, le-leb}
 use Rattle.std.proofs.lemmas.Bool.{lt-leb}
 use Rattle.logic.specs.Formula.{Form}
 use Rattle.logic.specs.Formula.Form.{same, diff, pts, ls, conj, disj, but, neg, sep, sept}
-use Rattle.logic.specs.Book.{most, varsOf, bookFormula, Accepted}
-use Rattle.logic.specs.BookLaws.{accepted-whole}
+use Rattle.logic.specs.Book.{most, vars_of, book_formula, Accepted}
+use Rattle.logic.specs.BookLaws.{accepted_whole}
 use Rattle.grammar.specs.Phrase.{Term, Phrase, emp, join, deny, relate, letter}
 use Rattle.grammar.specs.ListingLaws.{Within}
-use Rattle.writing.specs.Writing.{figureOf, variable, phraseOf}
-use Rattle.writing.specs.TreeLaws.{formula-within}
-use Rattle.writing.specs.WritingLaws.{Plain, nil-plain, name-plain, EachTerm}
+use Rattle.writing.specs.Writing.{figure_of, variable, phrase_of}
+use Rattle.writing.specs.TreeLaws.{formula_within}
+use Rattle.writing.specs.WritingLaws.{Plain, nil_plain, name_plain, EachTerm}
 
 -- a term that is one of the variables up to v, or nil
 pub data Variable (v : ℕ) : Term → Type 0 where
-  is-variable : (x : ℕ) → x ≤ v → Variable v (variable x)
+  is_variable : (x : ℕ) → x ≤ v → Variable v (variable x)
 
-pub form-terms : (v : ℕ) (F : Form) → Within v F → EachTerm (Variable v) (phraseOf F)
-unfolding Within phraseOf EachTerm
-form-terms v (same x y) w = ((is-variable x w.0, is-variable y w.1), tt)
-form-terms v (diff x y) w = ((is-variable x w.0, is-variable y w.1), tt)
-form-terms v (pts x y) w = (is-variable x w.0, is-variable y w.1)
-form-terms v (ls x y) w = (is-variable x w.0, is-variable y w.1)
-form-terms v (conj a b) w = (form-terms v a w.0, form-terms v b w.1)
-form-terms v (disj a b) w = (form-terms v a w.0, form-terms v b w.1)
-form-terms v (but a b) w = (form-terms v a w.0, form-terms v b w.1)
-form-terms v (neg a) w = form-terms v a w
-form-terms v (sep a b) w = (form-terms v a w.0, form-terms v b w.1)
-form-terms v (sept a b) w = (form-terms v a w.0, form-terms v b w.1)
+pub form_terms : (v : ℕ) (F : Form) → Within v F → EachTerm (Variable v) (phrase_of F)
+unfolding Within phrase_of EachTerm
+form_terms v (same x y) w = ((is_variable x w.0, is_variable y w.1), tt)
+form_terms v (diff x y) w = ((is_variable x w.0, is_variable y w.1), tt)
+form_terms v (pts x y) w = (is_variable x w.0, is_variable y w.1)
+form_terms v (ls x y) w = (is_variable x w.0, is_variable y w.1)
+form_terms v (conj a b) w = (form_terms v a w.0, form_terms v b w.1)
+form_terms v (disj a b) w = (form_terms v a w.0, form_terms v b w.1)
+form_terms v (but a b) w = (form_terms v a w.0, form_terms v b w.1)
+form_terms v (neg a) w = form_terms v a w
+form_terms v (sep a b) w = (form_terms v a w.0, form_terms v b w.1)
+form_terms v (sept a b) w = (form_terms v a w.0, form_terms v b w.1)
 
 -- the figures 1 to 8 may stand in a name
-figure-letter : (i : ℕ) → suc i ≤ most → letter (figureOf i) ≡ true
-figure-letter i l = rw (lt-leb (code "a") (figureOf i) (omega arith), le-leb (code "0") (figureOf i) (omega arith), le-leb (figureOf i) (code "9") (omega arith))
+figure_letter : (i : ℕ) → suc i ≤ most → letter (figure_of i) ≡ true
+figure_letter i l = rw (lt-leb (code "a") (figure_of i) (omega arith), le-leb (code "0") (figure_of i) (omega arith), le-leb (figure_of i) (code "9") (omega arith))
 
-variable-plain : (v : ℕ) (t : Term) → v ≤ most → Variable v t → Plain t
-variable-plain v t h (is-variable zero l) = nil-plain
-variable-plain v t h (is-variable (suc x) l) = name-plain (figure-letter x (omega arith))
+variable_plain : (v : ℕ) (t : Term) → v ≤ most → Variable v t → Plain t
+variable_plain v t h (is_variable zero l) = nil_plain
+variable_plain v t h (is_variable (suc x) l) = name_plain (figure_letter x (omega arith))
 
-each-plain : (v : ℕ) (P : Phrase) → v ≤ most → EachTerm (Variable v) P → EachTerm Plain P
+each_plain : (v : ℕ) (P : Phrase) → v ≤ most → EachTerm (Variable v) P → EachTerm Plain P
 unfolding EachTerm
-each-plain v emp h q = tt
-each-plain v (join c F G) h q = (each-plain v F h q.0, each-plain v G h q.1)
-each-plain v (deny F) h q = each-plain v F h q
-each-plain v (relate c x y) h q = (variable-plain v x h q.0, variable-plain v y h q.1)
+each_plain v emp h q = tt
+each_plain v (join c F G) h q = (each_plain v F h q.0, each_plain v G h q.1)
+each_plain v (deny F) h q = each_plain v F h q
+each_plain v (relate c x y) h q = (variable_plain v x h q.0, variable_plain v y h q.1)
 
 -- so a book's text has no other terms than nil and such names
-pub text-plain : (s : List ℕ) → Accepted s → EachTerm Plain (phraseOf (bookFormula s))
-text-plain s k = each-plain (varsOf s) (phraseOf (bookFormula s)) (accepted-whole s k).bounds.vars (form-terms (varsOf s) (bookFormula s) (formula-within s k))
+pub text_plain : (s : List ℕ) → Accepted s → EachTerm Plain (phrase_of (book_formula s))
+text_plain s k = each_plain (vars_of s) (phrase_of (book_formula s)) (accepted_whole s k).bounds.vars (form_terms (vars_of s) (book_formula s) (formula_within s k))

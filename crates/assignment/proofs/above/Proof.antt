@@ -7,66 +7,66 @@ use lib.Dec.{leb}
 use lib.ListN.{length}
 use Rattle.logic.specs.Table.{op_of}
 use Rattle.logic.specs.Tests.{pick}
-use Rattle.logic.specs.Weight.{sum, sum-start, sum_more}
+use Rattle.logic.specs.Weight.{sum, sum_start, sum_more}
 use Rattle.assignment.proofs.above.Statement.{statement}
 use Rattle.assignment.proofs.above.Tie as tie
 
-abbrev invariant-loop : tie.invariant-loop
-invariant-loop f o end r₀ k₀ r k = (k ≤ end) × (end ≡ length f / 3) × (r ≤ k) × (r ≡ sum k (λ j. pick (leb (op_of f j) o) 0 1))
+abbrev invariant_loop : tie.invariant-loop
+invariant_loop f o end r₀ k₀ r k = (k ≤ end) × (end ≡ length f / 3) × (r ≤ k) × (r ≡ sum k (λ j. pick (leb (op_of f j) o) 0 1))
 
-abbrev decreases-loop : tie.decreases-loop
-decreases-loop f o end r₀ k₀ r k = end - k
+abbrev decreases_loop : tie.decreases-loop
+decreases_loop f o end r₀ k₀ r k = end - k
 
-loop-holds : tie.Need-loop-init invariant-loop decreases-loop
-loop-holds c = let a = c.before.args in (search rules, refl, search rules, sym (sum-start (λ j. pick (leb (op_of a.f.now j) a.o) 0 1)))
+loop_holds : tie.Need-loop-init invariant_loop decreases_loop
+loop_holds c = let a = c.before.args in (search rules, refl, search rules, sym (sum_start (λ j. pick (leb (op_of a.f.now j) a.o) 0 1)))
 
-mul-one-above : tie.Need-overflow-mul-one-above invariant-loop decreases-loop
-mul-one-above c = search rules
+mul_one_above : tie.Need-overflow-mul-one-above invariant_loop decreases_loop
+mul_one_above c = search rules
 
-shared-slice-read-one-above : tie.Need-shared-slice-read-one-above invariant-loop decreases-loop
-shared-slice-read-one-above c = omega arith
+shared_slice_read_one_above : tie.Need-shared-slice-read-one-above invariant_loop decreases_loop
+shared_slice_read_one_above c = omega arith
 
-one-above-requires : tie.Need-one-above-requires invariant-loop decreases-loop
-one-above-requires c κs = search rules
+one_above_requires : tie.Need-one-above-requires invariant_loop decreases_loop
+one_above_requires c κs = search rules
 
-add_r : tie.Need-overflow-add-r invariant-loop decreases-loop
-add_r c = omega (arith, c.one-above.ensures.1)
+add_r : tie.Need-overflow-add-r invariant_loop decreases_loop
+add_r c = omega (arith, c.one_above.ensures.1)
 
-add-k : tie.Need-overflow-add-k invariant-loop decreases-loop
-add-k c = search rules
+add_k : tie.Need-overflow-add-k invariant_loop decreases_loop
+add_k c = search rules
 
-loop-less : tie.Need-loop-smaller invariant-loop decreases-loop
-loop-less c = search rules
+loop_less : tie.Need-loop-smaller invariant_loop decreases_loop
+loop_less c = search rules
 
-loop-again : tie.Need-loop-preserved invariant-loop decreases-loop
-loop-again c =
+loop_again : tie.Need-loop-preserved invariant_loop decreases_loop
+loop_again c =
     let l = c.before.before.before.loop in
     let a = c.before.before.before.before.before.args in (
       search rules,
       l.invariant.1,
-      omega (arith, c.one-above.ensures.1),
-      ap₂ ◌+◌ l.invariant.3 c.one-above.ensures.0 ∙ sym (sum_more (λ j. pick (leb (op_of a.f.now j) a.o) 0 1) l.k),
+      omega (arith, c.one_above.ensures.1),
+      ap₂ ◌+◌ l.invariant.3 c.one_above.ensures.0 ∙ sym (sum_more (λ j. pick (leb (op_of a.f.now j) a.o) 0 1) l.k),
     )
 
-returns : tie.Need-returns invariant-loop decreases-loop
+returns : tie.Need-returns invariant_loop decreases_loop
 returns c =
     let l = c.before.loop in
     let a = c.before.before.before.args in
     let e : l.k ≡ length a.f.now / 3 = omega arith in
     (l.invariant.3 ∙ ap (λ (k : ℕ). sum k (λ j. pick (leb (op_of a.f.now j) a.o) 0 1)) e, omega (arith, l.invariant.2))
 
-pub above-spec : {M : Type 1} → statement M
-above-spec =
+pub above_spec : {M : Type 1} → statement M
+above_spec =
     tie.close
     (tie.spec
-    invariant-loop
-    decreases-loop
-    loop-holds
-    mul-one-above
-    shared-slice-read-one-above
-    one-above-requires
+    invariant_loop
+    decreases_loop
+    loop_holds
+    mul_one_above
+    shared_slice_read_one_above
+    one_above_requires
     add_r
-    add-k
-    loop-less
-    loop-again
+    add_k
+    loop_less
+    loop_again
     returns)

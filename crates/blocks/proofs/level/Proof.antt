@@ -5,47 +5,47 @@ use native.Mathlib.Omega.{arith}
 use Rattle.blocks.proofs.level.Statement.{statement}
 use Rattle.blocks.proofs.level.Tie as tie
 
-abbrev invariant-loop : tie.invariant-loop
-invariant-loop looking t u n w j₀ j = j ≤ n
+abbrev invariant_loop : tie.invariant-loop
+invariant_loop looking t u n w j₀ j = j ≤ n
 
-abbrev decreases-loop : tie.decreases-loop
-decreases-loop looking t u n w j₀ j = j
+abbrev decreases_loop : tie.decreases-loop
+decreases_loop looking t u n w j₀ j = j
 
-first-level-requires : tie.Need-first-level-requires invariant-loop decreases-loop
-first-level-requires c κs = search rules
+first_level_requires : tie.Need-first-level-requires invariant_loop decreases_loop
+first_level_requires c κs = search rules
 
-loop-holds : tie.Need-loop-init invariant-loop decreases-loop
-loop-holds c = c.first-level.ensures
+loop_holds : tie.Need-loop-init invariant_loop decreases_loop
+loop_holds c = c.first_level.ensures
 
-sub-j : tie.Need-overflow-sub-j invariant-loop decreases-loop
-sub-j c = omega arith
+sub_j : tie.Need-overflow-sub-j invariant_loop decreases_loop
+sub_j c = omega arith
 
-is-over-requires : tie.Need-is-over-requires invariant-loop decreases-loop
-is-over-requires c κs = (omega arith, c.before.before.before.requires.0, c.before.before.before.requires.1)
+is_over_requires : tie.Need-is-over-requires invariant_loop decreases_loop
+is_over_requires c κs = (omega arith, c.before.before.before.requires.0, c.before.before.before.requires.1)
 
-returns : tie.Need-returns invariant-loop decreases-loop
-returns c = λ l. c.before.is-over.ensures c.if1.true
+returns : tie.Need-returns invariant_loop decreases_loop
+returns c = λ l. c.before.is_over.ensures c.if1.true
 
-loop-less : tie.Need-loop-smaller invariant-loop decreases-loop
-loop-less c = omega arith
+loop_less : tie.Need-loop-smaller invariant_loop decreases_loop
+loop_less c = omega arith
 
-loop-again : tie.Need-loop-preserved invariant-loop decreases-loop
-loop-again c = omega arith
+loop_again : tie.Need-loop-preserved invariant_loop decreases_loop
+loop_again c = omega arith
 
-returns-2 : tie.Need-returns-2 invariant-loop decreases-loop
-returns-2 c = λ l. absurd (omega arith)
+returns_2 : tie.Need-returns-2 invariant_loop decreases_loop
+returns_2 c = λ l. absurd (omega arith)
 
-pub level-spec : {M : Type 1} → statement M
-level-spec =
+pub level_spec : {M : Type 1} → statement M
+level_spec =
     tie.close
     (tie.spec
-    invariant-loop
-    decreases-loop
-    first-level-requires
-    loop-holds
-    sub-j
-    is-over-requires
+    invariant_loop
+    decreases_loop
+    first_level_requires
+    loop_holds
+    sub_j
+    is_over_requires
     returns
-    loop-less
-    loop-again
-    returns-2)
+    loop_less
+    loop_again
+    returns_2)

@@ -5,39 +5,39 @@ use native.Mathlib.Omega.{arith}
 use lib.ListN.{get_or}
 use mathlib.Core.List.{List}
 use Prim.Native.Nat.{ℕ}
-use Rattle.logic.specs.OpenLaws.{read-given, read-three}
+use Rattle.logic.specs.OpenLaws.{read_given, read_three}
 use Rattle.book.proofs.open.Statement.{statement}
 use Rattle.book.proofs.open.Tie as tie
 
-read-requires : tie.Need-read-requires
-read-requires c κs = search rules
+read_requires : tie.Need-read-requires
+read_requires c κs = search rules
 
 returns : tie.Need-returns
 returns c = search rules
 
-part-requires : tie.Need-part-requires
-part-requires c κs = read-given c.before.before.before.before.args.book.now c.before.before.read.result 0 c.before.before.read.ensures c.if1.false (omega arith)
+part_requires : tie.Need-part-requires
+part_requires c κs = read_given c.before.before.before.before.args.book.now c.before.before.read.result 0 c.before.before.read.ensures c.if1.false (omega arith)
 
-shared-slice-read-long : tie.Need-shared-slice-read-long
-shared-slice-read-long c = omega (arith, read-three _ c.before.before.before.before.read.result _ c.before.before.before.before.read.ensures c.before.before.if1.false c.before.part.ensures)
+shared_slice_read_long : tie.Need-shared-slice-read-long
+shared_slice_read_long c = omega (arith, read_three _ c.before.before.before.before.read.result _ c.before.before.before.before.read.ensures c.before.before.if1.false c.before.part.ensures)
 
-long-requires : tie.Need-long-requires
-long-requires c κs = search rules
+long_requires : tie.Need-long-requires
+long_requires c κs = search rules
 
-shared-slice-read-long-2 : tie.Need-shared-slice-read-long-2
-shared-slice-read-long-2 c = omega (arith, read-three _ c.before.before.before.before.before.before.read.result _ c.before.before.before.before.before.before.read.ensures c.before.before.before.before.if1.false c.before.before.before.part.ensures)
+shared_slice_read_long_2 : tie.Need-shared-slice-read-long-2
+shared_slice_read_long_2 c = omega (arith, read_three _ c.before.before.before.before.before.before.read.result _ c.before.before.before.before.before.before.read.ensures c.before.before.before.before.if1.false c.before.before.before.part.ensures)
 
-long-requires-2 : tie.Need-long-requires-2
-long-requires-2 c κs = search rules
+long_requires_2 : tie.Need-long-requires-2
+long_requires_2 c κs = search rules
 
-shared-slice-read-long-3 : tie.Need-shared-slice-read-long-3
-shared-slice-read-long-3 c = omega (arith, read-three _ c.before.before.before.before.before.before.before.before.read.result _ c.before.before.before.before.before.before.before.before.read.ensures c.before.before.before.before.before.before.if1.false c.before.before.before.before.before.part.ensures)
+shared_slice_read_long_3 : tie.Need-shared-slice-read-long-3
+shared_slice_read_long_3 c = omega (arith, read_three _ c.before.before.before.before.before.before.before.before.read.result _ c.before.before.before.before.before.before.before.before.read.ensures c.before.before.before.before.before.before.if1.false c.before.before.before.before.before.part.ensures)
 
-long-requires-3 : tie.Need-long-requires-3
-long-requires-3 c κs = search rules
+long_requires_3 : tie.Need-long-requires-3
+long_requires_3 c κs = search rules
 
-returns-2 : tie.Need-returns-2
-returns-2 c =
+returns_2 : tie.Need-returns-2
+returns_2 c =
     let e = c.before.before.before.before.before.before.part.ensures in
     record {
       answer = c.before.before.before.before.before.before.before.before.before.read.ensures;
@@ -53,13 +53,13 @@ pub open_spec : {M : Type 1} → statement M
 open_spec =
     tie.close
     (tie.spec
-    read-requires
+    read_requires
     returns
-    part-requires
-    shared-slice-read-long
-    long-requires
-    shared-slice-read-long-2
-    long-requires-2
-    shared-slice-read-long-3
-    long-requires-3
-    returns-2)
+    part_requires
+    shared_slice_read_long
+    long_requires
+    shared_slice_read_long_2
+    long_requires_2
+    shared_slice_read_long_3
+    long_requires_3
+    returns_2)

@@ -6,100 +6,100 @@ use lib.ListN.{length, get_or}
 use Rattle.logic.specs.Numbers.{answer}
 use Rattle.logic.specs.Checks.{Passes}
 use Rattle.logic.specs.Book.{Reads}
-use Rattle.logic.specs.BookLaws.{laid_out, formula-short, reads-contents, reads-bodies, reads-nodes, reads-uses, bodies-pass, nodes-pass, nodes-sound}
+use Rattle.logic.specs.BookLaws.{reads_laid_out, formula_short, reads_contents, reads_bodies, reads_nodes, reads_uses, bodies_pass, nodes_pass, nodes_sound}
 use Rattle.book.proofs.read.Statement.{statement}
 use Rattle.book.proofs.read.Tie as tie
 
-check-requires : tie.Need-check-requires
-check-requires c κs = search rules
+check_requires : tie.Need-check-requires
+check_requires c κs = search rules
 
 returns : tie.Need-returns
 returns c =
     let q = c.before.before.check in
-    reads-contents c.before.before.before.before.args.book.now q.result q.ensures c.if1.true
+    reads_contents c.before.before.before.before.args.book.now q.result q.ensures c.if1.true
 
-part-requires : tie.Need-part-requires
-part-requires c κs =
+part_requires : tie.Need-part-requires
+part_requires c κs =
     let s = c.before.before.before.before.args.book.now in
-    let g = laid_out s c.before.before.check.result c.before.before.check.ensures c.if1.false in
+    let g = reads_laid_out s c.before.before.check.result c.before.before.check.ensures c.if1.false in
     (g, omega arith)
 
-part-requires-2 : tie.Need-part-requires-2
-part-requires-2 c κs =
+part_requires_2 : tie.Need-part-requires-2
+part_requires_2 c κs =
     let s = c.before.before.before.before.before.args.book.now in
-    let g = laid_out s c.before.before.before.check.result c.before.before.before.check.ensures c.before.if1.false in
+    let g = reads_laid_out s c.before.before.before.check.result c.before.before.before.check.ensures c.before.if1.false in
     (g, omega arith)
 
-bodies-requires : tie.Need-bodies-requires
-bodies-requires c κs = search rules
+bodies_requires : tie.Need-bodies-requires
+bodies_requires c κs = search rules
 
-answer-of-requires : tie.Need-answer-of-requires
-answer-of-requires c κs = search rules
+answer_of_requires : tie.Need-answer-of-requires
+answer_of_requires c κs = search rules
 
-returns-2 : tie.Need-returns-2
-returns-2 c =
+returns_2 : tie.Need-returns-2
+returns_2 c =
     let s = c.before.before.before.before.before.before.before.before.before.args.book.now in
-    let g = laid_out s c.before.before.before.before.before.before.before.check.result c.before.before.before.before.before.before.before.check.ensures c.before.before.before.before.before.if1.false in
+    let g = reads_laid_out s c.before.before.before.before.before.before.before.check.result c.before.before.before.before.before.before.before.check.ensures c.before.before.before.before.before.if1.false in
     let b = c.before.before.before.before.part.result.now in
     let f = c.before.before.before.part2.result.now in
     let q = c.before.before.bodies in
-    subst⁻¹ (Reads s) c.answer-of.ensures
-    (reads-bodies s b f g c.before.before.before.before.part.ensures c.before.before.before.part2.ensures (answer q.result 0) q.ensures c.before.if2.true)
+    subst⁻¹ (Reads s) c.answer_of.ensures
+    (reads_bodies s b f g c.before.before.before.before.part.ensures c.before.before.before.part2.ensures (answer q.result 0) q.ensures c.before.if2.true)
 
-shared-slice-read-v : tie.Need-shared-slice-read-v
+shared_slice_read_v : tie.Need-shared-slice-read-v
 unfolding Passes
-shared-slice-read-v c =
+shared_slice_read_v c =
     let b = c.before.before.before.before.part.result.now in
     let f = c.before.before.before.part2.result.now in
-    let p = bodies-pass b f c.before.before.bodies.result c.before.before.bodies.ensures c.before.if2.false in
+    let p = bodies_pass b f c.before.before.bodies.result c.before.before.bodies.ensures c.before.if2.false in
     omega (arith, p.0.three)
 
-nodes-requires : tie.Need-nodes-requires
-nodes-requires c κs = search rules
+nodes_requires : tie.Need-nodes-requires
+nodes_requires c κs = search rules
 
-returns-3 : tie.Need-returns-3
-returns-3 c =
+returns_3 : tie.Need-returns-3
+returns_3 c =
     let s = c.before.before.before.before.before.before.before.before.before.before.before.before.args.book.now in
-    let g = laid_out s c.before.before.before.before.before.before.before.before.before.before.check.result c.before.before.before.before.before.before.before.before.before.before.check.ensures c.before.before.before.before.before.before.before.before.if1.false in
+    let g = reads_laid_out s c.before.before.before.before.before.before.before.before.before.before.check.result c.before.before.before.before.before.before.before.before.before.before.check.ensures c.before.before.before.before.before.before.before.before.if1.false in
     let b = c.before.before.before.before.before.before.before.part.result.now in
     let f = c.before.before.before.before.before.before.part2.result.now in
-    let p = bodies-pass b f c.before.before.before.before.before.bodies.result c.before.before.before.before.before.bodies.ensures c.before.before.before.before.if2.false in
-    reads-nodes s b f g c.before.before.before.before.before.before.before.part.ensures c.before.before.before.before.before.before.part2.ensures c.before.before.nodes.result p c.before.before.nodes.ensures c.if3.true
+    let p = bodies_pass b f c.before.before.before.before.before.bodies.result c.before.before.before.before.before.bodies.ensures c.before.before.before.before.if2.false in
+    reads_nodes s b f g c.before.before.before.before.before.before.before.part.ensures c.before.before.before.before.before.before.part2.ensures c.before.before.nodes.result p c.before.before.nodes.ensures c.if3.true
 
-one-parent-requires : tie.Need-one-parent-requires
+one_parent_requires : tie.Need-one-parent-requires
 unfolding Passes
-one-parent-requires c κs =
+one_parent_requires c κs =
     let s = c.before.before.before.before.before.before.before.before.before.before.before.before.args.book.now in
-    let g = laid_out s c.before.before.before.before.before.before.before.before.before.before.check.result c.before.before.before.before.before.before.before.before.before.before.check.ensures c.before.before.before.before.before.before.before.before.if1.false in
+    let g = reads_laid_out s c.before.before.before.before.before.before.before.before.before.before.check.result c.before.before.before.before.before.before.before.before.before.before.check.ensures c.before.before.before.before.before.before.before.before.if1.false in
     let b = c.before.before.before.before.before.before.before.part.result.now in
     let f = c.before.before.before.before.before.before.part2.result.now in
-    let p = bodies-pass b f c.before.before.before.before.before.bodies.result c.before.before.before.before.before.bodies.ensures c.before.before.before.before.if2.false in
-    let k = nodes-pass (get_or b 0 0) f c.before.before.nodes.result c.before.before.nodes.ensures c.if3.false in
-    (omega (arith, p.1.0.0, p.1.0.1), omega (arith, ap length c.before.before.before.before.before.before.part2.ensures, formula-short s g (sym (ap length c.before.before.before.before.before.before.before.part.ensures) ∙ p.0.three)), nodes-sound (get_or b 0 0) f k)
+    let p = bodies_pass b f c.before.before.before.before.before.bodies.result c.before.before.before.before.before.bodies.ensures c.before.before.before.before.if2.false in
+    let k = nodes_pass (get_or b 0 0) f c.before.before.nodes.result c.before.before.nodes.ensures c.if3.false in
+    (omega (arith, p.1.0.0, p.1.0.1), omega (arith, ap length c.before.before.before.before.before.before.part2.ensures, formula_short s g (sym (ap length c.before.before.before.before.before.before.before.part.ensures) ∙ p.0.three)), nodes_sound (get_or b 0 0) f k)
 
-returns-4 : tie.Need-returns-4
-returns-4 c =
+returns_4 : tie.Need-returns-4
+returns_4 c =
     let s = c.before.before.before.before.before.before.before.before.before.before.before.before.before.args.book.now in
-    let g = laid_out s c.before.before.before.before.before.before.before.before.before.before.before.check.result c.before.before.before.before.before.before.before.before.before.before.before.check.ensures c.before.before.before.before.before.before.before.before.before.if1.false in
+    let g = reads_laid_out s c.before.before.before.before.before.before.before.before.before.before.before.check.result c.before.before.before.before.before.before.before.before.before.before.before.check.ensures c.before.before.before.before.before.before.before.before.before.if1.false in
     let b = c.before.before.before.before.before.before.before.before.part.result.now in
     let f = c.before.before.before.before.before.before.before.part2.result.now in
-    let p = bodies-pass b f c.before.before.before.before.before.before.bodies.result c.before.before.before.before.before.before.bodies.ensures c.before.before.before.before.before.if2.false in
-    let k = nodes-pass (get_or b 0 0) f c.before.before.before.nodes.result c.before.before.before.nodes.ensures c.before.if3.false in
-    reads-uses s b f g c.before.before.before.before.before.before.before.before.part.ensures c.before.before.before.before.before.before.before.part2.ensures c.one_parent.result p k c.one_parent.ensures
+    let p = bodies_pass b f c.before.before.before.before.before.before.bodies.result c.before.before.before.before.before.before.bodies.ensures c.before.before.before.before.before.if2.false in
+    let k = nodes_pass (get_or b 0 0) f c.before.before.before.nodes.result c.before.before.before.nodes.ensures c.before.if3.false in
+    reads_uses s b f g c.before.before.before.before.before.before.before.before.part.ensures c.before.before.before.before.before.before.before.part2.ensures c.one_parent.result p k c.one_parent.ensures
 
 pub read_spec : {M : Type 1} → statement M
 read_spec =
     tie.close
     (tie.spec
-    check-requires
+    check_requires
     returns
-    part-requires
-    part-requires-2
-    bodies-requires
-    answer-of-requires
-    returns-2
-    shared-slice-read-v
-    nodes-requires
-    returns-3
-    one-parent-requires
-    returns-4)
+    part_requires
+    part_requires_2
+    bodies_requires
+    answer_of_requires
+    returns_2
+    shared_slice_read_v
+    nodes_requires
+    returns_3
+    one_parent_requires
+    returns_4)

@@ -1,14 +1,14 @@
 -- `cells::bit` meets its contract. Assumes nothing.
 use borrow.Author.Rules.{rules}
-use Rattle.cells.specs.Packing.{bit-law}
+use Rattle.cells.specs.Packing.{bit_law}
 use Rattle.cells.proofs.bit.Statement.{statement}
 use Rattle.cells.proofs.bit.Tie as tie
 
-shl-result : tie.Need-overflow-shl-result
-shl-result c = search rules
+shl_result : tie.Need-overflow-shl-result
+shl_result c = search rules
 
 returns : tie.Need-returns
-returns c = bit-law _ c.requires
+returns c = bit_law _ c.requires
 
-pub bit-spec : {M : Type 1} → statement M
-bit-spec = tie.close (tie.spec shl-result returns)
+pub bit_spec : {M : Type 1} → statement M
+bit_spec = tie.close (tie.spec shl_result returns)

@@ -8,5 +8,5 @@ use Rattle.cells.proofs.fold.Tie as tie
 returns : tie.Need-returns
 returns c = fold_law c.args.t _ _ (omega arith) refl refl
 
-pub fold-spec : {M : Type 1} → statement M
-fold-spec = tie.close (tie.spec returns)
+pub fold_spec : {M : Type 1} → statement M
+fold_spec = tie.close (tie.spec returns)

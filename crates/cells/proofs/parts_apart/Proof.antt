@@ -1,21 +1,21 @@
 -- `cells::parts_apart` meets its contract. Assumes nothing.
 use mathlib.Core.Path.{refl}
 use borrow.Author.Rules.{rules}
-use Rattle.cells.specs.Tables.{is-clear, clear-nothing}
+use Rattle.cells.specs.Tables.{is_clear, clear_nothing}
 use Rattle.cells.proofs.parts_apart.Statement.{statement}
 use Rattle.cells.proofs.parts_apart.Tie as tie
 
 returns : tie.Need-returns
-returns c = record { to = λ e. clear-nothing _ _ c.if1.true; from = λ q. refl }
+returns c = record { to = λ e. clear_nothing _ _ c.if1.true; from = λ q. refl }
 
-fold-requires : tie.Need-fold-requires
-fold-requires c κs = search rules
+fold_requires : tie.Need-fold-requires
+fold_requires c κs = search rules
 
-fold-requires-2 : tie.Need-fold-requires-2
-fold-requires-2 c κs = search rules
+fold_requires_2 : tie.Need-fold-requires-2
+fold_requires_2 c κs = search rules
 
-returns-2 : tie.Need-returns-2
-returns-2 c = is-clear _ _ _ _ c.before.fold.ensures c.fold2.ensures
+returns_2 : tie.Need-returns-2
+returns_2 c = is_clear _ _ _ _ c.before.fold.ensures c.fold2.ensures
 
-pub parts-apart-spec : {M : Type 1} → statement M
-parts-apart-spec = tie.close (tie.spec returns fold-requires fold-requires-2 returns-2)
+pub parts_apart_spec : {M : Type 1} → statement M
+parts_apart_spec = tie.close (tie.spec returns fold_requires fold_requires_2 returns_2)

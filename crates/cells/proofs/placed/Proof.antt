@@ -1,20 +1,20 @@
 -- `cells::placed` meets its contract. Assumes nothing.
 use borrow.Author.Rules.{rules}
-use Rattle.cells.specs.Packing.{placed-law}
+use Rattle.cells.specs.Packing.{placed_law}
 use Rattle.cells.proofs.placed.Statement.{statement}
 use Rattle.cells.proofs.placed.Tie as tie
 
-sub-result : tie.Need-overflow-sub-result
-sub-result c = search rules
+sub_result : tie.Need-overflow-sub-result
+sub_result c = search rules
 
-mul-result : tie.Need-overflow-mul-result
-mul-result c = search rules
+mul_result : tie.Need-overflow-mul-result
+mul_result c = search rules
 
-shl-result : tie.Need-overflow-shl-result
-shl-result c = search rules
+shl_result : tie.Need-overflow-shl-result
+shl_result c = search rules
 
 returns : tie.Need-returns
-returns c = placed-law _ _ c.requires.0 c.requires.1 c.requires.2
+returns c = placed_law _ _ c.requires.0 c.requires.1 c.requires.2
 
-pub placed-spec : {M : Type 1} → statement M
-placed-spec = tie.close (tie.spec sub-result mul-result shl-result returns)
+pub placed_spec : {M : Type 1} → statement M
+placed_spec = tie.close (tie.spec sub_result mul_result shl_result returns)

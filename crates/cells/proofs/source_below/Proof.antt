@@ -5,47 +5,47 @@ use native.Mathlib.Omega.{arith}
 use borrow.Author.Rules.{rules}
 use Rattle.logic.specs.Reflect.{fails}
 use Rattle.cells.specs.Loops.{NoSource}
-use Rattle.cells.specs.Sources.{no-source-next}
+use Rattle.cells.specs.Sources.{no_source_next}
 use Rattle.cells.proofs.source_below.Statement.{statement}
 use Rattle.cells.proofs.source_below.Tie as tie
 
-abbrev invariant-loop : tie.invariant-loop
-invariant-loop w met top l₀ l = (l ≤ top) × NoSource w met top l
+abbrev invariant_loop : tie.invariant-loop
+invariant_loop w met top l₀ l = (l ≤ top) × NoSource w met top l
 
-abbrev decreases-loop : tie.decreases-loop
-decreases-loop w met top l₀ l = l
+abbrev decreases_loop : tie.decreases-loop
+decreases_loop w met top l₀ l = l
 
-loop-holds : tie.Need-loop-init invariant-loop decreases-loop
-loop-holds c = (omega arith, λ ℓ k m s. absurd (omega arith))
+loop_holds : tie.Need-loop-init invariant_loop decreases_loop
+loop_holds c = (omega arith, λ ℓ k m s. absurd (omega arith))
 
-is-source-requires : tie.Need-is-source-requires invariant-loop decreases-loop
-is-source-requires c κs = search rules
+is_source_requires : tie.Need-is-source-requires invariant_loop decreases_loop
+is_source_requires c κs = search rules
 
-returns : tie.Need-returns invariant-loop decreases-loop
-returns c = record { low = c.before.before.before.loop.invariant.0; source = λ n. c.before.is-source.ensures.to c.if1.true; passed = c.before.before.before.loop.invariant.1 }
+returns : tie.Need-returns invariant_loop decreases_loop
+returns c = record { low = c.before.before.before.loop.invariant.0; source = λ n. c.before.is_source.ensures.to c.if1.true; passed = c.before.before.before.loop.invariant.1 }
 
-sub-l : tie.Need-overflow-sub-l invariant-loop decreases-loop
-sub-l c = search rules
+sub_l : tie.Need-overflow-sub-l invariant_loop decreases_loop
+sub_l c = search rules
 
-loop-less : tie.Need-loop-smaller invariant-loop decreases-loop
-loop-less c = search rules
+loop_less : tie.Need-loop-smaller invariant_loop decreases_loop
+loop_less c = search rules
 
-loop-again : tie.Need-loop-preserved invariant-loop decreases-loop
-loop-again c = (omega arith, no-source-next _ _ _ _ c.before.before.loop-test.true c.before.before.before.loop.invariant.1 (fails _ c.before.is-source.ensures c.if1.false))
+loop_again : tie.Need-loop-preserved invariant_loop decreases_loop
+loop_again c = (omega arith, no_source_next _ _ _ _ c.before.before.loop-test.true c.before.before.before.loop.invariant.1 (fails _ c.before.is_source.ensures c.if1.false))
 
-returns-2 : tie.Need-returns-2 invariant-loop decreases-loop
-returns-2 c = record { low = zero-le; source = λ n. absurd (n refl); passed = subst (NoSource c.before.before.args.w c.before.before.args.met c.before.before.args.top) (omega arith) c.before.loop.invariant.1 }
+returns_2 : tie.Need-returns-2 invariant_loop decreases_loop
+returns_2 c = record { low = zero-le; source = λ n. absurd (n refl); passed = subst (NoSource c.before.before.args.w c.before.before.args.met c.before.before.args.top) (omega arith) c.before.loop.invariant.1 }
 
-pub source-below-spec : {M : Type 1} → statement M
-source-below-spec =
+pub source_below_spec : {M : Type 1} → statement M
+source_below_spec =
     tie.close
     (tie.spec
-    invariant-loop
-    decreases-loop
-    loop-holds
-    is-source-requires
+    invariant_loop
+    decreases_loop
+    loop_holds
+    is_source_requires
     returns
-    sub-l
-    loop-less
-    loop-again
-    returns-2)
+    sub_l
+    loop_less
+    loop_again
+    returns_2)

@@ -4,55 +4,55 @@ use native.Mathlib.Nat.{one-le-pow}
 use native.Mathlib.Omega.{arith}
 use borrow.Author.Rules.{rules}
 use Rattle.cells.specs.Loops.{Naming}
-use Rattle.cells.specs.Unnamed.{naming-first, naming-next, naming-last}
+use Rattle.cells.specs.Unnamed.{naming_first, naming_next, naming_last}
 use Rattle.cells.proofs.unnamed.Statement.{statement}
 use Rattle.cells.proofs.unnamed.Tie as tie
 
-abbrev invariant-loop : tie.invariant-loop
-invariant-loop v n s x₀ named₀ i₀ x named i = (i ≤ v) × Naming v n s x i named
+abbrev invariant_loop : tie.invariant-loop
+invariant_loop v n s x₀ named₀ i₀ x named i = (i ≤ v) × Naming v n s x i named
 
-abbrev decreases-loop : tie.decreases-loop
-decreases-loop v n s x₀ named₀ i₀ x named i = i
+abbrev decreases_loop : tie.decreases-loop
+decreases_loop v n s x₀ named₀ i₀ x named i = i
 
-loop-holds : tie.Need-loop-init invariant-loop decreases-loop
-loop-holds c = (omega arith, naming-first _ _ _)
+loop_holds : tie.Need-loop-init invariant_loop decreases_loop
+loop_holds c = (omega arith, naming_first _ _ _)
 
-bit-up-to-requires : tie.Need-bit-up-to-requires invariant-loop decreases-loop
-bit-up-to-requires c κs = search rules
+bit_up_to_requires : tie.Need-bit-up-to-requires invariant_loop decreases_loop
+bit_up_to_requires c κs = search rules
 
-sub-i : tie.Need-overflow-sub-i invariant-loop decreases-loop
-sub-i c = search rules
+sub_i : tie.Need-overflow-sub-i invariant_loop decreases_loop
+sub_i c = search rules
 
-loop-less : tie.Need-loop-smaller invariant-loop decreases-loop
-loop-less c = search rules
+loop_less : tie.Need-loop-smaller invariant_loop decreases_loop
+loop_less c = search rules
 
-loop-again : tie.Need-loop-preserved invariant-loop decreases-loop
-loop-again c = (omega arith, naming-next _ _ _ _ _ _ _ c.before.loop-test.true c.bit-up-to.ensures.0 c.bit-up-to.ensures.1 c.before.before.loop.invariant.1)
+loop_again : tie.Need-loop-preserved invariant_loop decreases_loop
+loop_again c = (omega arith, naming_next _ _ _ _ _ _ _ c.before.loop-test.true c.bit_up_to.ensures.0 c.bit_up_to.ensures.1 c.before.before.loop.invariant.1)
 
-add-bit : tie.Need-overflow-add-bit invariant-loop decreases-loop
-add-bit c = search rules
+add_bit : tie.Need-overflow-add-bit invariant_loop decreases_loop
+add_bit c = search rules
 
-bit-requires : tie.Need-bit-requires invariant-loop decreases-loop
-bit-requires c κs = search rules
+bit_requires : tie.Need-bit-requires invariant_loop decreases_loop
+bit_requires c κs = search rules
 
-sub-result : tie.Need-overflow-sub-result invariant-loop decreases-loop
-sub-result c = omega (arith, one-le-pow (c.before.before.before.args.n + 1) 2 (omega arith))
+sub_result : tie.Need-overflow-sub-result invariant_loop decreases_loop
+sub_result c = omega (arith, one-le-pow (c.before.before.before.args.n + 1) 2 (omega arith))
 
-returns : tie.Need-returns invariant-loop decreases-loop
-returns c = naming-last _ _ _ _ _ _ _ c.before.before.before.requires.1 (omega arith) c.bit.ensures c.before.before.loop.invariant.1
+returns : tie.Need-returns invariant_loop decreases_loop
+returns c = naming_last _ _ _ _ _ _ _ c.before.before.before.requires.1 (omega arith) c.bit.ensures c.before.before.loop.invariant.1
 
-pub unnamed-spec : {M : Type 1} → statement M
-unnamed-spec =
+pub unnamed_spec : {M : Type 1} → statement M
+unnamed_spec =
     tie.close
     (tie.spec
-    invariant-loop
-    decreases-loop
-    loop-holds
-    bit-up-to-requires
-    sub-i
-    loop-less
-    loop-again
-    add-bit
-    bit-requires
-    sub-result
+    invariant_loop
+    decreases_loop
+    loop_holds
+    bit_up_to_requires
+    sub_i
+    loop_less
+    loop_again
+    add_bit
+    bit_requires
+    sub_result
     returns)

@@ -6,47 +6,47 @@ use Rattle.logic.specs.Checks.{Answers}
 use Rattle.contents.proofs.check.Statement.{statement}
 use Rattle.contents.proofs.check.Tie as tie
 
-answer-of-requires : tie.Need-answer-of-requires
-answer-of-requires c κs = search rules
+answer_of_requires : tie.Need-answer-of-requires
+answer_of_requires c κs = search rules
 
 returns : tie.Need-returns
 unfolding Answers
-returns c = inl (λ h. omega (arith, h.0), c.answer-of.ensures)
+returns c = inl (λ h. omega (arith, h.0), c.answer_of.ensures)
 
-answer-of-requires-2 : tie.Need-answer-of-requires-2
-answer-of-requires-2 c κs = search rules
+answer_of_requires_2 : tie.Need-answer-of-requires-2
+answer_of_requires_2 c κs = search rules
 
-returns-2 : tie.Need-returns-2
+returns_2 : tie.Need-returns-2
 unfolding Answers
-returns-2 c = inl (λ h. omega (arith, h.1), c.answer-of2.ensures)
+returns_2 c = inl (λ h. omega (arith, h.1), c.answer_of2.ensures)
 
-shared-slice-read-if3 : tie.Need-shared-slice-read-if3
-shared-slice-read-if3 c = search rules
+shared_slice_read_if3 : tie.Need-shared-slice-read-if3
+shared_slice_read_if3 c = search rules
 
-answer-of-requires-3 : tie.Need-answer-of-requires-3
-answer-of-requires-3 c κs = search rules
+answer_of_requires_3 : tie.Need-answer-of-requires-3
+answer_of_requires_3 c κs = search rules
 
-returns-3 : tie.Need-returns-3
+returns_3 : tie.Need-returns-3
 unfolding Answers
-returns-3 c = inr ((omega arith, omega arith), inl (λ h. omega (arith, h), c.answer-of3.ensures))
+returns_3 c = inr ((omega arith, omega arith), inl (λ h. omega (arith, h), c.answer_of3.ensures))
 
-entries-requires : tie.Need-entries-requires
-entries-requires c κs = search rules
+entries_requires : tie.Need-entries-requires
+entries_requires c κs = search rules
 
-returns-4 : tie.Need-returns-4
+returns_4 : tie.Need-returns-4
 unfolding Answers
-returns-4 c = inr ((omega arith, omega arith), inr (omega arith, c.entries.ensures))
+returns_4 c = inr ((omega arith, omega arith), inr (omega arith, c.entries.ensures))
 
-pub check-spec : {M : Type 1} → statement M
-check-spec =
+pub check_spec : {M : Type 1} → statement M
+check_spec =
     tie.close
     (tie.spec
-    answer-of-requires
+    answer_of_requires
     returns
-    answer-of-requires-2
-    returns-2
-    shared-slice-read-if3
-    answer-of-requires-3
-    returns-3
-    entries-requires
-    returns-4)
+    answer_of_requires_2
+    returns_2
+    shared_slice_read_if3
+    answer_of_requires_3
+    returns_3
+    entries_requires
+    returns_4)

@@ -5,17 +5,17 @@ use Rattle.draft.specs.DraftLaws.{added, too_many}
 use Rattle.draft.proofs.one_node.Statement.{statement}
 use Rattle.draft.proofs.one_node.Tie as tie
 
-add-if1 : tie.Need-overflow-add-if1
-add-if1 c = search rules
+add_if1 : tie.Need-overflow-add-if1
+add_if1 c = search rules
 
 returns : tie.Need-returns
 returns c = too_many c.if1.true
 
-with-node-requires : tie.Need-with-node-requires
-with-node-requires c κs = search rules
+with_node_requires : tie.Need-with-node-requires
+with_node_requires c κs = search rules
 
-returns-2 : tie.Need-returns-2
-returns-2 c = added (omega arith) c.with-node.ensures
+returns_2 : tie.Need-returns-2
+returns_2 c = added (omega arith) c.with_node.ensures
 
-pub one-node-spec : {M : Type 1} → statement M
-one-node-spec = tie.close (tie.spec add-if1 returns with-node-requires returns-2)
+pub one_node_spec : {M : Type 1} → statement M
+one_node_spec = tie.close (tie.spec add_if1 returns with_node_requires returns_2)

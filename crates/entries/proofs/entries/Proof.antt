@@ -7,68 +7,68 @@ use Rattle.logic.specs.Reflect.{fails}
 use Rattle.entries.proofs.entries.Statement.{statement}
 use Rattle.entries.proofs.entries.Tie as tie
 
-is-kind-requires : tie.Need-is-kind-requires
-is-kind-requires c κs = search rules
+is_kind_requires : tie.Need-is-kind-requires
+is_kind_requires c κs = search rules
 
-is-first-placed-requires : tie.Need-is-first-placed-requires
-is-first-placed-requires c κs = search rules
+is_first_placed_requires : tie.Need-is-first-placed-requires
+is_first_placed_requires c κs = search rules
 
-is-kind-requires-2 : tie.Need-is-kind-requires-2
-is-kind-requires-2 c κs = search rules
+is_kind_requires_2 : tie.Need-is-kind-requires-2
+is_kind_requires_2 c κs = search rules
 
-is-second-placed-requires : tie.Need-is-second-placed-requires
-is-second-placed-requires c κs = search rules
+is_second_placed_requires : tie.Need-is-second-placed-requires
+is_second_placed_requires c κs = search rules
 
-answer-of-requires : tie.Need-answer-of-requires
-answer-of-requires c κs = search rules
+answer_of_requires : tie.Need-answer-of-requires
+answer_of_requires c κs = search rules
 
 returns : tie.Need-returns
 unfolding ◌then◌ Answers
-returns c = inl (fails _ c.before.before.before.before.before.is-kind.ensures (not-true _ c.before.if1.true), c.answer-of.ensures)
+returns c = inl (fails _ c.before.before.before.before.before.is_kind.ensures (not-true _ c.before.if1.true), c.answer_of.ensures)
 
-answer-of-requires-2 : tie.Need-answer-of-requires-2
-answer-of-requires-2 c κs = search rules
+answer_of_requires_2 : tie.Need-answer-of-requires-2
+answer_of_requires_2 c κs = search rules
 
-returns-2 : tie.Need-returns-2
+returns_2 : tie.Need-returns-2
 unfolding ◌then◌ Answers
-returns-2 c = inr (c.before.before.before.before.before.before.is-kind.ensures.to (not-false _ c.before.before.if1.false), inl (fails _ c.before.before.before.before.before.is-first-placed.ensures (not-true _ c.before.if2.true), c.answer-of2.ensures))
+returns_2 c = inr (c.before.before.before.before.before.before.is_kind.ensures.to (not-false _ c.before.before.if1.false), inl (fails _ c.before.before.before.before.before.is_first_placed.ensures (not-true _ c.before.if2.true), c.answer_of2.ensures))
 
-answer-of-requires-3 : tie.Need-answer-of-requires-3
-answer-of-requires-3 c κs = search rules
+answer_of_requires_3 : tie.Need-answer-of-requires-3
+answer_of_requires_3 c κs = search rules
 
-returns-3 : tie.Need-returns-3
+returns_3 : tie.Need-returns-3
 unfolding ◌then◌ Answers
-returns-3 c = inr (c.before.before.before.before.before.before.before.is-kind.ensures.to (not-false _ c.before.before.before.if1.false), inr (c.before.before.before.before.before.before.is-first-placed.ensures.to (not-false _ c.before.before.if2.false), inl (fails _ c.before.before.before.before.before.is-kind2.ensures (not-true _ c.before.if3.true), c.answer-of3.ensures)))
+returns_3 c = inr (c.before.before.before.before.before.before.before.is_kind.ensures.to (not-false _ c.before.before.before.if1.false), inr (c.before.before.before.before.before.before.is_first_placed.ensures.to (not-false _ c.before.before.if2.false), inl (fails _ c.before.before.before.before.before.is_kind2.ensures (not-true _ c.before.if3.true), c.answer_of3.ensures)))
 
-answer-of-requires-4 : tie.Need-answer-of-requires-4
-answer-of-requires-4 c κs = search rules
+answer_of_requires_4 : tie.Need-answer-of-requires-4
+answer_of_requires_4 c κs = search rules
 
-returns-4 : tie.Need-returns-4
+returns_4 : tie.Need-returns-4
 unfolding ◌then◌ Answers
-returns-4 c = inr (c.before.before.before.before.before.before.before.before.is-kind.ensures.to (not-false _ c.before.before.before.before.if1.false), inr (c.before.before.before.before.before.before.before.is-first-placed.ensures.to (not-false _ c.before.before.before.if2.false), inr (c.before.before.before.before.before.before.is-kind2.ensures.to (not-false _ c.before.before.if3.false), inl (fails _ c.before.before.before.before.before.is-second-placed.ensures (not-true _ c.before.if4.true), c.answer-of4.ensures))))
+returns_4 c = inr (c.before.before.before.before.before.before.before.before.is_kind.ensures.to (not-false _ c.before.before.before.before.if1.false), inr (c.before.before.before.before.before.before.before.is_first_placed.ensures.to (not-false _ c.before.before.before.if2.false), inr (c.before.before.before.before.before.before.is_kind2.ensures.to (not-false _ c.before.before.if3.false), inl (fails _ c.before.before.before.before.before.is_second_placed.ensures (not-true _ c.before.if4.true), c.answer_of4.ensures))))
 
-answer-of-requires-5 : tie.Need-answer-of-requires-5
-answer-of-requires-5 c κs = search rules
+answer_of_requires_5 : tie.Need-answer-of-requires-5
+answer_of_requires_5 c κs = search rules
 
-returns-5 : tie.Need-returns-5
+returns_5 : tie.Need-returns-5
 unfolding ◌then◌ Answers
-returns-5 c = inr (c.before.before.before.before.before.before.before.before.is-kind.ensures.to (not-false _ c.before.before.before.before.if1.false), inr (c.before.before.before.before.before.before.before.is-first-placed.ensures.to (not-false _ c.before.before.before.if2.false), inr (c.before.before.before.before.before.before.is-kind2.ensures.to (not-false _ c.before.before.if3.false), inr (c.before.before.before.before.before.is-second-placed.ensures.to (not-false _ c.before.if4.false), c.answer-of5.ensures))))
+returns_5 c = inr (c.before.before.before.before.before.before.before.before.is_kind.ensures.to (not-false _ c.before.before.before.before.if1.false), inr (c.before.before.before.before.before.before.before.is_first_placed.ensures.to (not-false _ c.before.before.before.if2.false), inr (c.before.before.before.before.before.before.is_kind2.ensures.to (not-false _ c.before.before.if3.false), inr (c.before.before.before.before.before.is_second_placed.ensures.to (not-false _ c.before.if4.false), c.answer_of5.ensures))))
 
-pub entries-spec : {M : Type 1} → statement M
-entries-spec =
+pub entries_spec : {M : Type 1} → statement M
+entries_spec =
     tie.close
     (tie.spec
-    is-kind-requires
-    is-first-placed-requires
-    is-kind-requires-2
-    is-second-placed-requires
-    answer-of-requires
+    is_kind_requires
+    is_first_placed_requires
+    is_kind_requires_2
+    is_second_placed_requires
+    answer_of_requires
     returns
-    answer-of-requires-2
-    returns-2
-    answer-of-requires-3
-    returns-3
-    answer-of-requires-4
-    returns-4
-    answer-of-requires-5
-    returns-5)
+    answer_of_requires_2
+    returns_2
+    answer_of_requires_3
+    returns_3
+    answer_of_requires_4
+    returns_4
+    answer_of_requires_5
+    returns_5)

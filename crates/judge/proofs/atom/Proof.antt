@@ -3,111 +3,111 @@ use mathlib.Core.Path.{refl, ◌∙◌, ap}
 use native.Mathlib.Omega.{arith}
 use borrow.Author.Rules.{rules}
 use Rattle.cells.specs.Cells.{cells}
-use Rattle.judge.specs.Atoms.{variables, locations, same-there, same-elsewhere, diff-there, diff-elsewhere, points_to, list-from}
+use Rattle.judge.specs.Atoms.{variables, locations, same_there, same_elsewhere, diff_there, diff_elsewhere, points_to, list_from}
 use Rattle.judge.proofs.atom.Statement.{statement}
 use Rattle.judge.proofs.atom.Tie as tie
 
-mul-op : tie.Need-overflow-mul-op
-mul-op c = omega (arith, c.requires.1.inside)
+mul_op : tie.Need-overflow-mul-op
+mul_op c = omega (arith, c.requires.1.inside)
 
-element-copy-out-op : tie.Need-element-copy-out-op
-element-copy-out-op c = omega (arith, c.requires.1.inside)
+element_copy_out_op : tie.Need-element-copy-out-op
+element_copy_out_op c = omega (arith, c.requires.1.inside)
 
-element-copy-out-cell : tie.Need-element-copy-out-cell
-element-copy-out-cell c = search rules
+element_copy_out_cell : tie.Need-element-copy-out-cell
+element_copy_out_cell c = search rules
 
-mul-long : tie.Need-overflow-mul-long
-mul-long c = omega (arith, c.before.before.requires.1.inside)
+mul_long : tie.Need-overflow-mul-long
+mul_long c = omega (arith, c.before.before.requires.1.inside)
 
-add-long : tie.Need-overflow-add-long
-add-long c = omega (arith, c.before.before.requires.1.inside)
+add_long : tie.Need-overflow-add-long
+add_long c = omega (arith, c.before.before.requires.1.inside)
 
-element-copy-out-long : tie.Need-element-copy-out-long
-element-copy-out-long c = omega (arith, c.before.before.requires.1.inside)
+element_copy_out_long : tie.Need-element-copy-out-long
+element_copy_out_long c = omega (arith, c.before.before.requires.1.inside)
 
-long-requires : tie.Need-long-requires
-long-requires c κs = search rules
+long_requires : tie.Need-long-requires
+long_requires c κs = search rules
 
-cell-requires : tie.Need-cell-requires
-cell-requires c κs = omega (arith, variables _ _ _ c.before.before.before.before.requires.1 c.before.before.before.before.requires.0)
+cell_requires : tie.Need-cell-requires
+cell_requires c κs = omega (arith, variables _ _ _ c.before.before.before.before.requires.1 c.before.before.before.before.requires.0)
 
-element-copy-out-cell-2 : tie.Need-element-copy-out-cell-2
-element-copy-out-cell-2 c = search rules
+element_copy_out_cell_2 : tie.Need-element-copy-out-cell-2
+element_copy_out_cell_2 c = search rules
 
-mul-long-2 : tie.Need-overflow-mul-long-2
-mul-long-2 c = omega (arith, c.before.before.before.before.before.before.requires.1.inside)
+mul_long_2 : tie.Need-overflow-mul-long-2
+mul_long_2 c = omega (arith, c.before.before.before.before.before.before.requires.1.inside)
 
-add-long-2 : tie.Need-overflow-add-long-2
-add-long-2 c = omega (arith, c.before.before.before.before.before.before.requires.1.inside)
+add_long_2 : tie.Need-overflow-add-long-2
+add_long_2 c = omega (arith, c.before.before.before.before.before.before.requires.1.inside)
 
-element-copy-out-long-2 : tie.Need-element-copy-out-long-2
-element-copy-out-long-2 c = omega (arith, c.before.before.before.before.before.before.requires.1.inside)
+element_copy_out_long_2 : tie.Need-element-copy-out-long-2
+element_copy_out_long_2 c = omega (arith, c.before.before.before.before.before.before.requires.1.inside)
 
-long-requires-2 : tie.Need-long-requires-2
-long-requires-2 c κs = search rules
+long_requires_2 : tie.Need-long-requires-2
+long_requires_2 c κs = search rules
 
-cell-requires-2 : tie.Need-cell-requires-2
-cell-requires-2 c κs = omega (arith, variables _ _ _ c.before.before.before.before.before.before.before.before.requires.1 c.before.before.before.before.before.before.before.before.requires.0)
+cell_requires_2 : tie.Need-cell-requires-2
+cell_requires_2 c κs = omega (arith, variables _ _ _ c.before.before.before.before.before.before.before.before.requires.1 c.before.before.before.before.before.before.before.before.requires.0)
 
-is-empty-requires : tie.Need-is-empty-requires
-is-empty-requires c κs = search rules
+is_empty_requires : tie.Need-is-empty-requires
+is_empty_requires c κs = search rules
 
-is-empty-requires-2 : tie.Need-is-empty-requires-2
-is-empty-requires-2 c κs = search rules
+is_empty_requires_2 : tie.Need-is-empty-requires-2
+is_empty_requires_2 c κs = search rules
 
-is-points-requires : tie.Need-is-points-requires
-is-points-requires c κs = locations _ _ _ c.before.before.before.before.before.before.before.before.before.before.requires.1 c.before.before.before.before.before.before.before.before.before.before.requires.0 _ _ (c.before.before.before.before.before.cell.ensures ∙ ap (cells _) c.before.before.before.before.before.before.long.ensures) (c.before.cell2.ensures ∙ ap (cells _) c.before.before.long2.ensures)
+is_points_requires : tie.Need-is-points-requires
+is_points_requires c κs = locations _ _ _ c.before.before.before.before.before.before.before.before.before.before.requires.1 c.before.before.before.before.before.before.before.before.before.before.requires.0 _ _ (c.before.before.before.before.before.cell.ensures ∙ ap (cells _) c.before.before.before.before.before.before.long.ensures) (c.before.cell2.ensures ∙ ap (cells _) c.before.before.long2.ensures)
 
-element-copy-out-is-list : tie.Need-element-copy-out-is-list
-element-copy-out-is-list c = search rules
+element_copy_out_is_list : tie.Need-element-copy-out-is-list
+element_copy_out_is_list c = search rules
 
-is-list-requires : tie.Need-is-list-requires
-is-list-requires c κs = (c.before.before.before.before.before.before.before.before.before.before.before.requires.1.fewLocs, (locations _ _ _ c.before.before.before.before.before.before.before.before.before.before.before.requires.1 c.before.before.before.before.before.before.before.before.before.before.before.requires.0 _ _ (c.before.before.before.before.before.before.cell.ensures ∙ ap (cells _) c.before.before.before.before.before.before.before.long.ensures) (c.before.before.cell2.ensures ∙ ap (cells _) c.before.before.before.long2.ensures)).0, c.before.before.before.before.before.before.before.before.before.before.before.requires.2)
+is_list_requires : tie.Need-is-list-requires
+is_list_requires c κs = (c.before.before.before.before.before.before.before.before.before.before.before.requires.1.few_locs, (locations _ _ _ c.before.before.before.before.before.before.before.before.before.before.before.requires.1 c.before.before.before.before.before.before.before.before.before.before.before.requires.0 _ _ (c.before.before.before.before.before.before.cell.ensures ∙ ap (cells _) c.before.before.before.before.before.before.before.long.ensures) (c.before.before.cell2.ensures ∙ ap (cells _) c.before.before.before.long2.ensures)).0, c.before.before.before.before.before.before.before.before.before.before.before.requires.2)
 
 returns : tie.Need-returns
-returns c = same-there _ _ _ c.before.before.before.before.before.before.before.before.before.before.before.before.requires.1 c.before.before.before.before.before.before.before.before.before.before.before.before.requires.0 _ _ (c.before.before.before.before.before.before.before.cell.ensures ∙ ap (cells _) c.before.before.before.before.before.before.before.before.long.ensures) (c.before.before.before.cell2.ensures ∙ ap (cells _) c.before.before.before.before.long2.ensures) _ c.before.before.before.before.before.before.before.before.before.before.before.before.requires.2 _ c.before.before.match.keys1 c.before.if1.true c.is-empty.ensures
+returns c = same_there _ _ _ c.before.before.before.before.before.before.before.before.before.before.before.before.requires.1 c.before.before.before.before.before.before.before.before.before.before.before.before.requires.0 _ _ (c.before.before.before.before.before.before.before.cell.ensures ∙ ap (cells _) c.before.before.before.before.before.before.before.before.long.ensures) (c.before.before.before.cell2.ensures ∙ ap (cells _) c.before.before.before.before.long2.ensures) _ c.before.before.before.before.before.before.before.before.before.before.before.before.requires.2 _ c.before.before.match.keys1 c.before.if1.true c.is_empty.ensures
 
-returns-2 : tie.Need-returns-2
-returns-2 c = same-elsewhere _ _ _ c.before.before.before.before.before.before.before.before.before.before.before.requires.1 c.before.before.before.before.before.before.before.before.before.before.before.requires.0 _ _ (c.before.before.before.before.before.before.cell.ensures ∙ ap (cells _) c.before.before.before.before.before.before.before.long.ensures) (c.before.before.cell2.ensures ∙ ap (cells _) c.before.before.before.long2.ensures) _ c.before.before.before.before.before.before.before.before.before.before.before.requires.2 _ c.before.match.keys1 c.if1.false refl
+returns_2 : tie.Need-returns-2
+returns_2 c = same_elsewhere _ _ _ c.before.before.before.before.before.before.before.before.before.before.before.requires.1 c.before.before.before.before.before.before.before.before.before.before.before.requires.0 _ _ (c.before.before.before.before.before.before.cell.ensures ∙ ap (cells _) c.before.before.before.before.before.before.before.long.ensures) (c.before.before.cell2.ensures ∙ ap (cells _) c.before.before.before.long2.ensures) _ c.before.before.before.before.before.before.before.before.before.before.before.requires.2 _ c.before.match.keys1 c.if1.false refl
 
-returns-3 : tie.Need-returns-3
-returns-3 c = diff-there _ _ _ c.before.before.before.before.before.before.before.before.before.before.before.requires.1 c.before.before.before.before.before.before.before.before.before.before.before.requires.0 _ _ (c.before.before.before.before.before.before.cell.ensures ∙ ap (cells _) c.before.before.before.before.before.before.before.long.ensures) (c.before.before.cell2.ensures ∙ ap (cells _) c.before.before.before.long2.ensures) _ c.before.before.before.before.before.before.before.before.before.before.before.requires.2 _ c.before.match.keys2 c.if2.true refl
+returns_3 : tie.Need-returns-3
+returns_3 c = diff_there _ _ _ c.before.before.before.before.before.before.before.before.before.before.before.requires.1 c.before.before.before.before.before.before.before.before.before.before.before.requires.0 _ _ (c.before.before.before.before.before.before.cell.ensures ∙ ap (cells _) c.before.before.before.before.before.before.before.long.ensures) (c.before.before.cell2.ensures ∙ ap (cells _) c.before.before.before.long2.ensures) _ c.before.before.before.before.before.before.before.before.before.before.before.requires.2 _ c.before.match.keys2 c.if2.true refl
 
-returns-4 : tie.Need-returns-4
-returns-4 c = diff-elsewhere _ _ _ c.before.before.before.before.before.before.before.before.before.before.before.before.requires.1 c.before.before.before.before.before.before.before.before.before.before.before.before.requires.0 _ _ (c.before.before.before.before.before.before.before.cell.ensures ∙ ap (cells _) c.before.before.before.before.before.before.before.before.long.ensures) (c.before.before.before.cell2.ensures ∙ ap (cells _) c.before.before.before.before.long2.ensures) _ c.before.before.before.before.before.before.before.before.before.before.before.before.requires.2 _ c.before.before.match.keys2 c.before.if2.false c.is-empty2.ensures
+returns_4 : tie.Need-returns-4
+returns_4 c = diff_elsewhere _ _ _ c.before.before.before.before.before.before.before.before.before.before.before.before.requires.1 c.before.before.before.before.before.before.before.before.before.before.before.before.requires.0 _ _ (c.before.before.before.before.before.before.before.cell.ensures ∙ ap (cells _) c.before.before.before.before.before.before.before.before.long.ensures) (c.before.before.before.cell2.ensures ∙ ap (cells _) c.before.before.before.before.long2.ensures) _ c.before.before.before.before.before.before.before.before.before.before.before.before.requires.2 _ c.before.before.match.keys2 c.before.if2.false c.is_empty2.ensures
 
-returns-5 : tie.Need-returns-5
-returns-5 c = points_to _ _ _ c.before.before.before.before.before.before.before.before.before.before.before.requires.1 c.before.before.before.before.before.before.before.before.before.before.before.requires.0 _ _ (c.before.before.before.before.before.before.cell.ensures ∙ ap (cells _) c.before.before.before.before.before.before.before.long.ensures) (c.before.before.cell2.ensures ∙ ap (cells _) c.before.before.before.long2.ensures) _ c.before.before.before.before.before.before.before.before.before.before.before.requires.2 _ c.before.match.keys3 c.is-points.ensures
+returns_5 : tie.Need-returns-5
+returns_5 c = points_to _ _ _ c.before.before.before.before.before.before.before.before.before.before.before.requires.1 c.before.before.before.before.before.before.before.before.before.before.before.requires.0 _ _ (c.before.before.before.before.before.before.cell.ensures ∙ ap (cells _) c.before.before.before.before.before.before.before.long.ensures) (c.before.before.cell2.ensures ∙ ap (cells _) c.before.before.before.long2.ensures) _ c.before.before.before.before.before.before.before.before.before.before.before.requires.2 _ c.before.match.keys3 c.is_points.ensures
 
-returns-6 : tie.Need-returns-6
-returns-6 c = list-from _ _ _ c.before.before.before.before.before.before.before.before.before.before.before.before.requires.1 c.before.before.before.before.before.before.before.before.before.before.before.before.requires.0 _ _ (c.before.before.before.before.before.before.before.cell.ensures ∙ ap (cells _) c.before.before.before.before.before.before.before.before.long.ensures) (c.before.before.before.cell2.ensures ∙ ap (cells _) c.before.before.before.before.long2.ensures) _ c.before.before.before.before.before.before.before.before.before.before.before.before.requires.2 _ c.before.before.match.rest.0.0.1 c.before.before.match.rest.0.1 c.before.before.match.rest.1 c.is-list.ensures
+returns_6 : tie.Need-returns-6
+returns_6 c = list_from _ _ _ c.before.before.before.before.before.before.before.before.before.before.before.before.requires.1 c.before.before.before.before.before.before.before.before.before.before.before.before.requires.0 _ _ (c.before.before.before.before.before.before.before.cell.ensures ∙ ap (cells _) c.before.before.before.before.before.before.before.before.long.ensures) (c.before.before.before.cell2.ensures ∙ ap (cells _) c.before.before.before.before.long2.ensures) _ c.before.before.before.before.before.before.before.before.before.before.before.before.requires.2 _ c.before.before.match.rest.0.0.1 c.before.before.match.rest.0.1 c.before.before.match.rest.1 c.is_list.ensures
 
-pub atom-spec : {M : Type 1} → statement M
-atom-spec =
+pub atom_spec : {M : Type 1} → statement M
+atom_spec =
     tie.close
     (tie.spec
-    mul-op
-    element-copy-out-op
-    element-copy-out-cell
-    mul-long
-    add-long
-    element-copy-out-long
-    long-requires
-    cell-requires
-    element-copy-out-cell-2
-    mul-long-2
-    add-long-2
-    element-copy-out-long-2
-    long-requires-2
-    cell-requires-2
-    is-empty-requires
-    is-empty-requires-2
-    is-points-requires
-    element-copy-out-is-list
-    is-list-requires
+    mul_op
+    element_copy_out_op
+    element_copy_out_cell
+    mul_long
+    add_long
+    element_copy_out_long
+    long_requires
+    cell_requires
+    element_copy_out_cell_2
+    mul_long_2
+    add_long_2
+    element_copy_out_long_2
+    long_requires_2
+    cell_requires_2
+    is_empty_requires
+    is_empty_requires_2
+    is_points_requires
+    element_copy_out_is_list
+    is_list_requires
     returns
-    returns-2
-    returns-3
-    returns-4
-    returns-5
-    returns-6)
+    returns_2
+    returns_3
+    returns_4
+    returns_5
+    returns_6)

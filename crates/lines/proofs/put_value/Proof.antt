@@ -1,13 +1,13 @@
 -- `lines::put_value` meets its contract. Assumes nothing.
 use borrow.Author.Rules.{rules}
 use native.Mathlib.Omega.{arith}
-use Rattle.put.specs.PutsLaws.{puts-as, room_as}
-use Rattle.lines.specs.PrintedLaws.{value_none, value-some}
+use Rattle.put.specs.PutsLaws.{puts_as, room_as}
+use Rattle.lines.specs.PrintedLaws.{value_none, value_some}
 use Rattle.lines.proofs.put_value.Statement.{statement}
 use Rattle.lines.proofs.put_value.Tie as tie
 
-put-requires : tie.Need-put-requires
-put-requires c κs =
+put_requires : tie.Need-put-requires
+put_requires c κs =
     let b = c.before.before.before in
     room_as b.args.at b.args.out.now (value_none b.args.x (omega (arith, c.before.if1.true))) b.requires
 
@@ -15,30 +15,30 @@ same_length : tie.Need-same-length
 same_length c = search rules
 
 returns : tie.Need-returns
-returns c = puts-as (value_none c.before.before.before.before.before.before.args.x (omega (arith, c.before.before.before.before.if1.true))) c.before.before.put.ensures
+returns c = puts_as (value_none c.before.before.before.before.before.before.args.x (omega (arith, c.before.before.before.before.if1.true))) c.before.before.put.ensures
 
-long-requires : tie.Need-long-requires
-long-requires c κs = search rules
+long_requires : tie.Need-long-requires
+long_requires c κs = search rules
 
-put-decimal-requires : tie.Need-put-decimal-requires
-put-decimal-requires c κs =
+put_decimal_requires : tie.Need-put-decimal-requires
+put_decimal_requires c κs =
     let b = c.before.before.before.before in
-    room_as b.args.at b.args.out.now (value-some b.args.x c.long.result (λ e. omega (arith, c.before.before.if1.false)) c.long.ensures) b.requires
+    room_as b.args.at b.args.out.now (value_some b.args.x c.long.result (λ e. omega (arith, c.before.before.if1.false)) c.long.ensures) b.requires
 
-same-length-2 : tie.Need-same-length-2
-same-length-2 c = search rules
+same_length_2 : tie.Need-same-length-2
+same_length_2 c = search rules
 
-returns-2 : tie.Need-returns-2
-returns-2 c = puts-as (value-some c.before.before.before.before.before.before.before.args.x c.before.before.before.long.result (λ e. omega (arith, c.before.before.before.before.before.if1.false)) c.before.before.before.long.ensures) c.before.before.put-decimal.ensures
+returns_2 : tie.Need-returns-2
+returns_2 c = puts_as (value_some c.before.before.before.before.before.before.before.args.x c.before.before.before.long.result (λ e. omega (arith, c.before.before.before.before.before.if1.false)) c.before.before.before.long.ensures) c.before.before.put_decimal.ensures
 
-pub put-value-spec : {M : Type 1} → statement M
-put-value-spec =
+pub put_value_spec : {M : Type 1} → statement M
+put_value_spec =
     tie.close
     (tie.spec
-    put-requires
+    put_requires
     same_length
     returns
-    long-requires
-    put-decimal-requires
-    same-length-2
-    returns-2)
+    long_requires
+    put_decimal_requires
+    same_length_2
+    returns_2)

@@ -5,43 +5,43 @@ use lib.ListN.{length}
 use Rattle.notation.proofs.bytes.Statement.{statement}
 use Rattle.notation.proofs.bytes.Tie as tie
 
-abbrev invariant-loop : tie.invariant-loop
-invariant-loop digits out₀ count₀ i₀ out count i = i ≤ length digits
+abbrev invariant_loop : tie.invariant-loop
+invariant_loop digits out₀ count₀ i₀ out count i = i ≤ length digits
 
-abbrev decreases-loop : tie.decreases-loop
-decreases-loop digits out₀ count₀ i₀ out count i = length digits - i
+abbrev decreases_loop : tie.decreases-loop
+decreases_loop digits out₀ count₀ i₀ out count i = length digits - i
 
-loop-holds : tie.Need-loop-init invariant-loop decreases-loop
-loop-holds c = search rules
+loop_holds : tie.Need-loop-init invariant_loop decreases_loop
+loop_holds c = search rules
 
-shared-slice-read-put-byte : tie.Need-shared-slice-read-put-byte invariant-loop decreases-loop
-shared-slice-read-put-byte c = search rules
+shared_slice_read_put_byte : tie.Need-shared-slice-read-put-byte invariant_loop decreases_loop
+shared_slice_read_put_byte c = search rules
 
-put-byte-requires : tie.Need-put-byte-requires invariant-loop decreases-loop
-put-byte-requires c κs = search rules
+put_byte_requires : tie.Need-put-byte-requires invariant_loop decreases_loop
+put_byte_requires c κs = search rules
 
-add-i : tie.Need-overflow-add-i invariant-loop decreases-loop
-add-i c = search rules
+add_i : tie.Need-overflow-add-i invariant_loop decreases_loop
+add_i c = search rules
 
-loop-less : tie.Need-loop-smaller invariant-loop decreases-loop
-loop-less c = search rules
+loop_less : tie.Need-loop-smaller invariant_loop decreases_loop
+loop_less c = search rules
 
-loop-again : tie.Need-loop-preserved invariant-loop decreases-loop
-loop-again c = search rules
+loop_again : tie.Need-loop-preserved invariant_loop decreases_loop
+loop_again c = search rules
 
-returns : tie.Need-returns invariant-loop decreases-loop
+returns : tie.Need-returns invariant_loop decreases_loop
 returns c = search rules
 
-pub bytes-spec : {M : Type 1} → statement M
-bytes-spec =
+pub bytes_spec : {M : Type 1} → statement M
+bytes_spec =
     tie.close
     (tie.spec
-    invariant-loop
-    decreases-loop
-    loop-holds
-    shared-slice-read-put-byte
-    put-byte-requires
-    add-i
-    loop-less
-    loop-again
+    invariant_loop
+    decreases_loop
+    loop_holds
+    shared_slice_read_put_byte
+    put_byte_requires
+    add_i
+    loop_less
+    loop_again
     returns)

@@ -5,47 +5,47 @@ use lib.ListN.{length}
 use Rattle.notation.proofs.drafted.Statement.{statement}
 use Rattle.notation.proofs.drafted.Tie as tie
 
-abbrev invariant-loop : tie.invariant-loop
-invariant-loop formula d₀ i₀ d i = i ≤ length formula
+abbrev invariant_loop : tie.invariant-loop
+invariant_loop formula d₀ i₀ d i = i ≤ length formula
 
-abbrev decreases-loop : tie.decreases-loop
-decreases-loop formula d₀ i₀ d i = length formula - i
+abbrev decreases_loop : tie.decreases-loop
+decreases_loop formula d₀ i₀ d i = length formula - i
 
-new-requires : tie.Need-new-requires invariant-loop decreases-loop
-new-requires c κs = search rules
+new_requires : tie.Need-new-requires invariant_loop decreases_loop
+new_requires c κs = search rules
 
-loop-holds : tie.Need-loop-init invariant-loop decreases-loop
-loop-holds c = search rules
+loop_holds : tie.Need-loop-init invariant_loop decreases_loop
+loop_holds c = search rules
 
-shared-slice-read-take : tie.Need-shared-slice-read-take invariant-loop decreases-loop
-shared-slice-read-take c = search rules
+shared_slice_read_take : tie.Need-shared-slice-read-take invariant_loop decreases_loop
+shared_slice_read_take c = search rules
 
-take-requires : tie.Need-take-requires invariant-loop decreases-loop
-take-requires c κs = search rules
+take_requires : tie.Need-take-requires invariant_loop decreases_loop
+take_requires c κs = search rules
 
-add-i : tie.Need-overflow-add-i invariant-loop decreases-loop
-add-i c = search rules
+add_i : tie.Need-overflow-add-i invariant_loop decreases_loop
+add_i c = search rules
 
-loop-less : tie.Need-loop-smaller invariant-loop decreases-loop
-loop-less c = search rules
+loop_less : tie.Need-loop-smaller invariant_loop decreases_loop
+loop_less c = search rules
 
-loop-again : tie.Need-loop-preserved invariant-loop decreases-loop
-loop-again c = search rules
+loop_again : tie.Need-loop-preserved invariant_loop decreases_loop
+loop_again c = search rules
 
-returns : tie.Need-returns invariant-loop decreases-loop
+returns : tie.Need-returns invariant_loop decreases_loop
 returns c = search rules
 
-pub drafted-spec : {M : Type 1} → statement M
-drafted-spec =
+pub drafted_spec : {M : Type 1} → statement M
+drafted_spec =
     tie.close
     (tie.spec
-    invariant-loop
-    decreases-loop
-    new-requires
-    loop-holds
-    shared-slice-read-take
-    take-requires
-    add-i
-    loop-less
-    loop-again
+    invariant_loop
+    decreases_loop
+    new_requires
+    loop_holds
+    shared_slice_read_take
+    take_requires
+    add_i
+    loop_less
+    loop_again
     returns)

@@ -8,5 +8,5 @@ returns : tie.Need-returns
 unfolding fields_of
 returns c = refl
 
-pub chain-spec : {M : Type 1} → statement M
-chain-spec = tie.close (tie.spec returns)
+pub chain_spec : {M : Type 1} → statement M
+chain_spec = tie.close (tie.spec returns)

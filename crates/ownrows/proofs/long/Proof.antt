@@ -8,5 +8,5 @@ returns : tie.Need-returns
 unfolding fields_of
 returns c = refl
 
-pub long-spec : {M : Type 1} → statement M
-long-spec = tie.close (tie.spec returns)
+pub long_spec : {M : Type 1} → statement M
+long_spec = tie.close (tie.spec returns)

@@ -4,57 +4,57 @@ use mathlib.Core.Path.{refl, sym, ap}
 use mathlib.Core.List.{[], ◌∷◌}
 use Prim.Native.Nat.{◌+◌}
 use native.Mathlib.Omega.{arith}
-use Rattle.put.specs.PutsLaws.{room-first, room-behind, room_as, puts-puts, puts-as, puts-long}
+use Rattle.put.specs.PutsLaws.{room_first, room_behind, room_as, puts_puts, puts_as, puts_long}
 use Rattle.ownwords.specs.OwnWords.{term}
-use Rattle.ownwords.specs.OwnWordLaws.{name-is}
+use Rattle.ownwords.specs.OwnWordLaws.{name_is}
 use Rattle.ownwords.proofs.put_term.Statement.{statement}
 use Rattle.ownwords.proofs.put_term.Tie as tie
 
-slice-aggregate-put-word : tie.Need-slice-aggregate-put-word
-slice-aggregate-put-word c = refl
+slice_aggregate_put_word : tie.Need-slice-aggregate-put-word
+slice_aggregate_put_word c = refl
 
-put-word-requires : tie.Need-put-word-requires
-put-word-requires c κs =
+put_word_requires : tie.Need-put-word-requires
+put_word_requires c κs =
     let b = c.before.before.before.before in
     room_as b.args.at b.args.out.now (sym (ap term c.before.before.if1.true)) b.requires.1
 
 same_length : tie.Need-same-length
-same_length c = puts-long c.before.before.put_word.ensures
+same_length c = puts_long c.before.before.put_word.ensures
 
 returns : tie.Need-returns
-returns c = puts-as (sym (ap term c.before.before.before.before.before.if1.true)) c.before.before.put_word.ensures
+returns c = puts_as (sym (ap term c.before.before.before.before.before.if1.true)) c.before.before.put_word.ensures
 
-put-requires : tie.Need-put-requires
-put-requires c κs =
+put_requires : tie.Need-put-requires
+put_requires c κs =
     let b = c.before.before.before in
     let x = b.args.x in
-    room-first b.args.at (118 ∷ []) ((48 + x) ∷ []) b.args.out.now (room_as b.args.at b.args.out.now (sym (name-is x (omega arith))) b.requires.1)
+    room_first b.args.at (118 ∷ []) ((48 + x) ∷ []) b.args.out.now (room_as b.args.at b.args.out.now (sym (name_is x (omega arith))) b.requires.1)
 
-add-put : tie.Need-overflow-add-put
-add-put c = search rules
+add_put : tie.Need-overflow-add-put
+add_put c = search rules
 
-put-requires-2 : tie.Need-put-requires-2
-put-requires-2 c κs =
+put_requires_2 : tie.Need-put-requires-2
+put_requires_2 c κs =
     let b = c.before.before.before.before.before.before.before in
     let x = b.args.x in
-    room-behind c.before.before.before.put.ensures ((48 + x) ∷ []) (room_as b.args.at b.args.out.now (sym (name-is x (omega arith))) b.requires.1)
+    room_behind c.before.before.before.put.ensures ((48 + x) ∷ []) (room_as b.args.at b.args.out.now (sym (name_is x (omega arith))) b.requires.1)
 
-same-length-2 : tie.Need-same-length-2
-same-length-2 c = search rules
+same_length_2 : tie.Need-same-length-2
+same_length_2 c = search rules
 
-returns-2 : tie.Need-returns-2
-returns-2 c = puts-as (sym (name-is c.before.before.before.before.before.before.before.before.before.before.args.x (omega arith))) (puts-puts c.before.before.before.before.before.before.put.ensures c.before.before.put2.ensures)
+returns_2 : tie.Need-returns-2
+returns_2 c = puts_as (sym (name_is c.before.before.before.before.before.before.before.before.before.before.args.x (omega arith))) (puts_puts c.before.before.before.before.before.before.put.ensures c.before.before.put2.ensures)
 
-pub put-term-spec : {M : Type 1} → statement M
-put-term-spec =
+pub put_term_spec : {M : Type 1} → statement M
+put_term_spec =
     tie.close
     (tie.spec
-    slice-aggregate-put-word
-    put-word-requires
+    slice_aggregate_put_word
+    put_word_requires
     same_length
     returns
-    put-requires
-    add-put
-    put-requires-2
-    same-length-2
-    returns-2)
+    put_requires
+    add_put
+    put_requires_2
+    same_length_2
+    returns_2)

@@ -1,14 +1,14 @@
 -- `pairs::few` meets its contract: the whole table passes the test, which antt computes. Assumes nothing.
 use mathlib.Core.Path.{refl}
 use native.Mathlib.Omega.{arith}
-use Rattle.pairs.specs.Pairs.{next, follow, inOrder, begins}
+use Rattle.pairs.specs.Pairs.{next, follow, in_order, begins}
 use Rattle.pairs.proofs.few.Statement.{statement}
 use Rattle.pairs.proofs.few.Tie as tie
 
 returns : tie.Need-returns
-unfolding next follow inOrder begins
+unfolding next follow in_order begins
 returns c =
     record { locs = 6; enough = omega arith; few = omega arith; passed = record { long = refl; ordered = refl; begun = refl } }
 
-pub few-spec : {M : Type 1} → statement M
-few-spec = tie.close (tie.spec returns)
+pub few_spec : {M : Type 1} → statement M
+few_spec = tie.close (tie.spec returns)

@@ -5,63 +5,63 @@ use native.Mathlib.Omega.{arith}
 use lib.ListN.{length, take}
 use lib.Seq.{take-length}
 use Rattle.put.specs.Puts.{Puts}
-use Rattle.put.specs.PutsLaws.{puts_none, puts-long, puts-puts, puts-as, room-behind, word_more, room_word}
+use Rattle.put.specs.PutsLaws.{puts_none, puts_long, puts_puts, puts_as, room_behind, word_more, room_word}
 use Rattle.put.proofs.put_word.Statement.{statement}
 use Rattle.put.proofs.put_word.Tie as tie
 
-abbrev invariant-loop : tie.invariant-loop
-invariant-loop out₀ at word next₀ i₀ out next i = (i ≤ length word) × Puts at (take i word) out₀ out next
+abbrev invariant_loop : tie.invariant-loop
+invariant_loop out₀ at word next₀ i₀ out next i = (i ≤ length word) × Puts at (take i word) out₀ out next
 
-abbrev decreases-loop : tie.decreases-loop
-decreases-loop out₀ at word next₀ i₀ out next i = length word - i
+abbrev decreases_loop : tie.decreases-loop
+decreases_loop out₀ at word next₀ i₀ out next i = length word - i
 
-loop-holds : tie.Need-loop-init invariant-loop decreases-loop
-loop-holds c =
+loop_holds : tie.Need-loop-init invariant_loop decreases_loop
+loop_holds c =
     let b = c.before.before in
     (omega arith, puts_none b.args.at b.args.out.now (omega (arith, b.requires)))
 
-shared-slice-read-put : tie.Need-shared-slice-read-put invariant-loop decreases-loop
-shared-slice-read-put c = omega arith
+shared_slice_read_put : tie.Need-shared-slice-read-put invariant_loop decreases_loop
+shared_slice_read_put c = omega arith
 
-put-requires : tie.Need-put-requires invariant-loop decreases-loop
-put-requires c κs =
+put_requires : tie.Need-put-requires invariant_loop decreases_loop
+put_requires c κs =
     let b = c.before.before.before.before.before.before in
     let l = c.before.before.before.loop in
-    room-behind l.invariant.1 _ (room_word b.args.word.now l.i c.before.before.loop-test.true b.args.at b.args.out.now b.requires)
+    room_behind l.invariant.1 _ (room_word b.args.word.now l.i c.before.before.loop-test.true b.args.at b.args.out.now b.requires)
 
-add-i : tie.Need-overflow-add-i invariant-loop decreases-loop
-add-i c = omega arith
+add_i : tie.Need-overflow-add-i invariant_loop decreases_loop
+add_i c = omega arith
 
-loop-less : tie.Need-loop-smaller invariant-loop decreases-loop
-loop-less c = omega arith
+loop_less : tie.Need-loop-smaller invariant_loop decreases_loop
+loop_less c = omega arith
 
-loop-again : tie.Need-loop-preserved invariant-loop decreases-loop
-loop-again c =
+loop_again : tie.Need-loop-preserved invariant_loop decreases_loop
+loop_again c =
     let b = c.before.before.before.before.before.before.before.before.before in
     let l = c.before.before.before.before.before.before.loop in
-    (omega arith, puts-as (word_more b.args.word.now l.i c.before.before.before.before.before.loop-test.true) (puts-puts l.invariant.1 c.before.before.put.ensures))
+    (omega arith, puts_as (word_more b.args.word.now l.i c.before.before.before.before.before.loop-test.true) (puts_puts l.invariant.1 c.before.before.put.ensures))
 
-same_length : tie.Need-same-length invariant-loop decreases-loop
-same_length c = puts-long c.before.loop.invariant.1
+same_length : tie.Need-same-length invariant_loop decreases_loop
+same_length c = puts_long c.before.loop.invariant.1
 
-returns : tie.Need-returns invariant-loop decreases-loop
+returns : tie.Need-returns invariant_loop decreases_loop
 returns c =
     let w = c.before.before.before.before.args.word.now in
     let l = c.before.loop in
     let end : l.i ≡ length w = omega arith in
-    puts-as (ap (λ (k : ℕ). take k w) end ∙ take-length w) l.invariant.1
+    puts_as (ap (λ (k : ℕ). take k w) end ∙ take-length w) l.invariant.1
 
-pub put-word-spec : {M : Type 1} → statement M
-put-word-spec =
+pub put_word_spec : {M : Type 1} → statement M
+put_word_spec =
     tie.close
     (tie.spec
-    invariant-loop
-    decreases-loop
-    loop-holds
-    shared-slice-read-put
-    put-requires
-    add-i
-    loop-less
-    loop-again
+    invariant_loop
+    decreases_loop
+    loop_holds
+    shared_slice_read_put
+    put_requires
+    add_i
+    loop_less
+    loop_again
     same_length
     returns)

@@ -8,61 +8,61 @@ use borrow.Author.Rules.{rules}
 use Rattle.logic.specs.Table.{tree}
 use Rattle.cells.specs.Cells.{cells}
 use Rattle.rootfacts.specs.RootFacts.{entries, EntryAt}
-use Rattle.rootfacts.specs.RootLaws.{stored_more, hopeless-facts}
+use Rattle.rootfacts.specs.RootLaws.{stored_more, hopeless_facts}
 use Rattle.rootfacts.proofs.root_facts.Statement.{statement}
 use Rattle.rootfacts.proofs.root_facts.Tie as tie
 
-abbrev invariant-loop : tie.invariant-loop
-invariant-loop f k n s t₀ l₀ t l = (l ≤ suc n) × (length t ≡ entries) × ((ℓ : ℕ) → ℓ < l → EntryAt n (tree f k) (cells s) t ℓ)
+abbrev invariant_loop : tie.invariant-loop
+invariant_loop f k n s t₀ l₀ t l = (l ≤ suc n) × (length t ≡ entries) × ((ℓ : ℕ) → ℓ < l → EntryAt n (tree f k) (cells s) t ℓ)
 
-abbrev decreases-loop : tie.decreases-loop
-decreases-loop f k n s t₀ l₀ t l = suc n - l
+abbrev decreases_loop : tie.decreases-loop
+decreases_loop f k n s t₀ l₀ t l = suc n - l
 
-loop-holds : tie.Need-loop-init invariant-loop decreases-loop
-loop-holds c = (search rules, refl, below_none _)
+loop_holds : tie.Need-loop-init invariant_loop decreases_loop
+loop_holds c = (search rules, refl, below_none _)
 
-node-fact-requires : tie.Need-node-fact-requires invariant-loop decreases-loop
-node-fact-requires c κs = search rules
+node_fact_requires : tie.Need-node-fact-requires invariant_loop decreases_loop
+node_fact_requires c κs = search rules
 
-returns : tie.Need-returns invariant-loop decreases-loop
-returns c = hopeless-facts _ _ _ _ _ _ c.before.before.node-fact.ensures c.if1.true c.before.before.before.before.before.requires.fewLocs
+returns : tie.Need-returns invariant_loop decreases_loop
+returns c = hopeless_facts _ _ _ _ _ _ c.before.before.node_fact.ensures c.if1.true c.before.before.before.before.before.requires.few_locs
 
-packed-requires : tie.Need-packed-requires invariant-loop decreases-loop
-packed-requires c κs = c.before.before.node-fact.ensures.small
+packed_requires : tie.Need-packed-requires invariant_loop decreases_loop
+packed_requires c κs = c.before.before.node_fact.ensures.small
 
-mul-t : tie.Need-overflow-mul-t invariant-loop decreases-loop
-mul-t c = omega (arith, c.before.before.before.before.loop-test.true, c.before.before.before.before.before.before.requires.fewLocs)
+mul_t : tie.Need-overflow-mul-t invariant_loop decreases_loop
+mul_t c = omega (arith, c.before.before.before.before.loop-test.true, c.before.before.before.before.before.before.requires.few_locs)
 
-array-write-t : tie.Need-array-write-t invariant-loop decreases-loop
-array-write-t c = omega (arith, c.before.before.before.before.loop-test.true, c.before.before.before.before.before.before.requires.fewLocs)
+array_write_t : tie.Need-array-write-t invariant_loop decreases_loop
+array_write_t c = omega (arith, c.before.before.before.before.loop-test.true, c.before.before.before.before.before.before.requires.few_locs)
 
-add-l : tie.Need-overflow-add-l invariant-loop decreases-loop
-add-l c = omega (arith, c.before.before.before.before.loop-test.true, c.before.before.before.before.before.before.requires.fewLocs)
+add_l : tie.Need-overflow-add-l invariant_loop decreases_loop
+add_l c = omega (arith, c.before.before.before.before.loop-test.true, c.before.before.before.before.before.before.requires.few_locs)
 
-loop-less : tie.Need-loop-smaller invariant-loop decreases-loop
-loop-less c = omega (arith, c.before.before.before.before.loop-test.true)
+loop_less : tie.Need-loop-smaller invariant_loop decreases_loop
+loop_less c = omega (arith, c.before.before.before.before.loop-test.true)
 
-loop-again : tie.Need-loop-preserved invariant-loop decreases-loop
-loop-again c =
+loop_again : tie.Need-loop-preserved invariant_loop decreases_loop
+loop_again c =
     let l = c.before.before.before.before.before.loop in
-    (omega (arith, c.before.before.before.before.loop-test.true), simp length-set l.invariant.1, stored_more _ _ _ _ _ _ c.before.before.before.node-fact.ensures l.t _ (omega (arith, c.before.before.before.before.loop-test.true, c.before.before.before.before.before.before.requires.fewLocs, l.invariant.1)) c.packed.ensures l.invariant.2)
+    (omega (arith, c.before.before.before.before.loop-test.true), simp length-set l.invariant.1, stored_more _ _ _ _ _ _ c.before.before.before.node_fact.ensures l.t _ (omega (arith, c.before.before.before.before.loop-test.true, c.before.before.before.before.before.before.requires.few_locs, l.invariant.1)) c.packed.ensures l.invariant.2)
 
-returns-2 : tie.Need-returns-2 invariant-loop decreases-loop
-returns-2 c = λ ℓ m. c.before.loop.invariant.2 ℓ (omega arith)
+returns_2 : tie.Need-returns-2 invariant_loop decreases_loop
+returns_2 c = λ ℓ m. c.before.loop.invariant.2 ℓ (omega arith)
 
-pub root-facts-spec : {M : Type 1} → statement M
-root-facts-spec =
+pub root_facts_spec : {M : Type 1} → statement M
+root_facts_spec =
     tie.close
     (tie.spec
-    invariant-loop
-    decreases-loop
-    loop-holds
-    node-fact-requires
+    invariant_loop
+    decreases_loop
+    loop_holds
+    node_fact_requires
     returns
-    packed-requires
-    mul-t
-    array-write-t
-    add-l
-    loop-less
-    loop-again
-    returns-2)
+    packed_requires
+    mul_t
+    array_write_t
+    add_l
+    loop_less
+    loop_again
+    returns_2)

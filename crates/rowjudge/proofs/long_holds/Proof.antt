@@ -5,21 +5,21 @@ use borrow.Author.Rules.{rules}
 use Rattle.logic.specs.Heap.{Map}
 use Rattle.logic.specs.Paths.{NoLongPath}
 use Rattle.logic.specs.Reflect.{Is}
-use Rattle.rowjudge.specs.SettingLaws.{on-low}
+use Rattle.rowjudge.specs.SettingLaws.{on_low}
 use Rattle.rowjudge.proofs.long_holds.Statement.{statement}
 use Rattle.rowjudge.proofs.long_holds.Tie as tie
 
-heap-at-requires : tie.Need-heap-at-requires
-heap-at-requires c κs = search rules
+heap_at_requires : tie.Need-heap-at-requires
+heap_at_requires c κs = search rules
 
-is-short-requires : tie.Need-is-short-requires
-is-short-requires c κs =
+is_short_requires : tie.Need-is-short-requires
+is_short_requires c κs =
     let a = c.before.before.args in
     let z = c.before.before.requires in
-    (omega (arith, z.0.few-locs), on-low a.g a.q.now a.arrays.now z.0 _ _ _ c.heap-at.ensures.0)
+    (omega (arith, z.0.few_locs), on_low a.g a.q.now a.arrays.now z.0 _ _ _ c.heap_at.ensures.0)
 
 returns : tie.Need-returns
-returns c = subst (λ (h : Map). Is c.is-short.result (NoLongPath c.before.before.before.args.k h)) c.before.heap-at.ensures.0 c.is-short.ensures
+returns c = subst (λ (h : Map). Is c.is_short.result (NoLongPath c.before.before.before.args.k h)) c.before.heap_at.ensures.0 c.is_short.ensures
 
-pub long-holds-spec : {M : Type 1} → statement M
-long-holds-spec = tie.close (tie.spec heap-at-requires is-short-requires returns)
+pub long_holds_spec : {M : Type 1} → statement M
+long_holds_spec = tie.close (tie.spec heap_at_requires is_short_requires returns)

@@ -1,25 +1,25 @@
 -- `search::hunt_in` meets its contract. Assumes nothing.
 use native.Mathlib.Omega.{arith}
-use Rattle.search.specs.Searching.{hunt-ready, hunted-in}
+use Rattle.search.specs.Searching.{hunt_ready, hunted_in}
 use Rattle.search.proofs.hunt_in.Statement.{statement}
 use Rattle.search.proofs.hunt_in.Tie as tie
 
-table-of-requires : tie.Need-table-of-requires
-table-of-requires c κs = let k = c.before.requires.0 in omega (arith, k.few, k.bytes)
+table_of_requires : tie.Need-table-of-requires
+table_of_requires c κs = let k = c.before.requires.0 in omega (arith, k.few, k.bytes)
 
-sub-hunt : tie.Need-overflow-sub-hunt
-sub-hunt c = omega (arith, c.before.before.before.requires.0.some)
+sub_hunt : tie.Need-overflow-sub-hunt
+sub_hunt c = omega (arith, c.before.before.before.requires.0.some)
 
-hunt-requires : tie.Need-hunt-requires
-hunt-requires c κs =
+hunt_requires : tie.Need-hunt-requires
+hunt_requires c κs =
     let a = c.before.before.before.args in
     let q = c.before.before.before.requires in
-    hunt-ready a.v a.n a.f.now c.before.table_of.result c.before.table_of.ensures q.0 q.1 q.2
+    hunt_ready a.v a.n a.f.now c.before.table_of.result c.before.table_of.ensures q.0 q.1 q.2
 
 returns : tie.Need-returns
 returns c =
     let a = c.before.before.before.before.args in
-    hunted-in a.v a.n a.f.now c.before.before.table_of.result c.before.before.table_of.ensures a.profile a.p a.budget _ _ c.hunt.ensures
+    hunted_in a.v a.n a.f.now c.before.before.table_of.result c.before.before.table_of.ensures a.profile a.p a.budget _ _ c.hunt.ensures
 
-pub hunt-in-spec : {M : Type 1} → statement M
-hunt-in-spec = tie.close (tie.spec table-of-requires sub-hunt hunt-requires returns)
+pub hunt_in_spec : {M : Type 1} → statement M
+hunt_in_spec = tie.close (tie.spec table_of_requires sub_hunt hunt_requires returns)

@@ -4,47 +4,47 @@ use Prim.Native.Nat.{◌-◌, ◌≤◌}
 use Rattle.second.proofs.fill_atom.Statement.{statement}
 use Rattle.second.proofs.fill_atom.Tie as tie
 
-abbrev invariant-loop : tie.invariant-loop
-invariant-loop sets₀ k op x y w heaps h₀ sets h = h ≤ heaps
+abbrev invariant_loop : tie.invariant-loop
+invariant_loop sets₀ k op x y w heaps h₀ sets h = h ≤ heaps
 
-abbrev decreases-loop : tie.decreases-loop
-decreases-loop sets₀ k op x y w heaps h₀ sets h = heaps - h
+abbrev decreases_loop : tie.decreases-loop
+decreases_loop sets₀ k op x y w heaps h₀ sets h = heaps - h
 
-loop-holds : tie.Need-loop-init invariant-loop decreases-loop
-loop-holds c = search rules
+loop_holds : tie.Need-loop-init invariant_loop decreases_loop
+loop_holds c = search rules
 
-atom-fits-requires : tie.Need-atom-fits-requires invariant-loop decreases-loop
-atom-fits-requires c κs = search rules
+atom_fits_requires : tie.Need-atom-fits-requires invariant_loop decreases_loop
+atom_fits_requires c κs = search rules
 
-wide-requires : tie.Need-wide-requires invariant-loop decreases-loop
-wide-requires c κs = search rules
+wide_requires : tie.Need-wide-requires invariant_loop decreases_loop
+wide_requires c κs = search rules
 
-add-requires : tie.Need-add-requires invariant-loop decreases-loop
-add-requires c κs = search rules
+add_requires : tie.Need-add-requires invariant_loop decreases_loop
+add_requires c κs = search rules
 
-add-h : tie.Need-overflow-add-h invariant-loop decreases-loop
-add-h c = search rules
+add_h : tie.Need-overflow-add-h invariant_loop decreases_loop
+add_h c = search rules
 
-loop-less : tie.Need-loop-smaller invariant-loop decreases-loop
-loop-less c = search rules
+loop_less : tie.Need-loop-smaller invariant_loop decreases_loop
+loop_less c = search rules
 
-loop-again : tie.Need-loop-preserved invariant-loop decreases-loop
-loop-again c = search rules
+loop_again : tie.Need-loop-preserved invariant_loop decreases_loop
+loop_again c = search rules
 
-returns : tie.Need-returns invariant-loop decreases-loop
+returns : tie.Need-returns invariant_loop decreases_loop
 returns c = search rules
 
-pub fill-atom-spec : {M : Type 1} → statement M
-fill-atom-spec =
+pub fill_atom_spec : {M : Type 1} → statement M
+fill_atom_spec =
     tie.close
     (tie.spec
-    invariant-loop
-    decreases-loop
-    loop-holds
-    atom-fits-requires
-    wide-requires
-    add-requires
-    add-h
-    loop-less
-    loop-again
+    invariant_loop
+    decreases_loop
+    loop_holds
+    atom_fits_requires
+    wide_requires
+    add_requires
+    add_h
+    loop_less
+    loop_again
     returns)

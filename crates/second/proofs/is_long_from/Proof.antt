@@ -4,47 +4,47 @@ use Prim.Native.Nat.{◌-◌, ◌≤◌}
 use Rattle.second.proofs.is_long_from.Statement.{statement}
 use Rattle.second.proofs.is_long_from.Tie as tie
 
-abbrev invariant-loop : tie.invariant-loop
-invariant-loop l h base path t₀ counter₀ t counter = counter ≤ 255
+abbrev invariant_loop : tie.invariant-loop
+invariant_loop l h base path t₀ counter₀ t counter = counter ≤ 255
 
-abbrev decreases-loop : tie.decreases-loop
-decreases-loop l h base path t₀ counter₀ t counter = 256 - counter
+abbrev decreases_loop : tie.decreases-loop
+decreases_loop l h base path t₀ counter₀ t counter = 256 - counter
 
-bit-requires : tie.Need-bit-requires invariant-loop decreases-loop
-bit-requires c κs = search rules
+bit_requires : tie.Need-bit-requires invariant_loop decreases_loop
+bit_requires c κs = search rules
 
-loop-holds : tie.Need-loop-init invariant-loop decreases-loop
-loop-holds c = search rules
+loop_holds : tie.Need-loop-init invariant_loop decreases_loop
+loop_holds c = search rules
 
-follow-requires : tie.Need-follow-requires invariant-loop decreases-loop
-follow-requires c κs = search rules
+follow_requires : tie.Need-follow-requires invariant_loop decreases_loop
+follow_requires c κs = search rules
 
-add-counter : tie.Need-overflow-add-counter invariant-loop decreases-loop
-add-counter c = search rules
+add_counter : tie.Need-overflow-add-counter invariant_loop decreases_loop
+add_counter c = search rules
 
-loop-less : tie.Need-loop-smaller invariant-loop decreases-loop
-loop-less c = search rules
+loop_less : tie.Need-loop-smaller invariant_loop decreases_loop
+loop_less c = search rules
 
-loop-again : tie.Need-loop-preserved invariant-loop decreases-loop
-loop-again c = search rules
+loop_again : tie.Need-loop-preserved invariant_loop decreases_loop
+loop_again c = search rules
 
-returns : tie.Need-returns invariant-loop decreases-loop
+returns : tie.Need-returns invariant_loop decreases_loop
 returns c = search rules
 
-returns-2 : tie.Need-returns-2 invariant-loop decreases-loop
-returns-2 c = search rules
+returns_2 : tie.Need-returns-2 invariant_loop decreases_loop
+returns_2 c = search rules
 
-pub is-long-from-spec : {M : Type 1} → statement M
-is-long-from-spec =
+pub is_long_from_spec : {M : Type 1} → statement M
+is_long_from_spec =
     tie.close
     (tie.spec
-    invariant-loop
-    decreases-loop
-    bit-requires
-    loop-holds
-    follow-requires
-    add-counter
-    loop-less
-    loop-again
+    invariant_loop
+    decreases_loop
+    bit_requires
+    loop_holds
+    follow_requires
+    add_counter
+    loop_less
+    loop_again
     returns
-    returns-2)
+    returns_2)

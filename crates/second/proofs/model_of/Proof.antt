@@ -5,47 +5,47 @@ use Rattle.logic.specs.Book.{most}
 use Rattle.second.proofs.model_of.Statement.{statement}
 use Rattle.second.proofs.model_of.Tie as tie
 
-abbrev invariant-loop : tie.invariant-loop
-invariant-loop v n w h model₀ i₀ model i = i ≤ 2 * most
+abbrev invariant_loop : tie.invariant-loop
+invariant_loop v n w h model₀ i₀ model i = i ≤ 2 * most
 
-abbrev decreases-loop : tie.decreases-loop
-decreases-loop v n w h model₀ i₀ model i = 2 * most - i
+abbrev decreases_loop : tie.decreases-loop
+decreases_loop v n w h model₀ i₀ model i = 2 * most - i
 
-loop-holds : tie.Need-loop-init invariant-loop decreases-loop
-loop-holds c = search rules
+loop_holds : tie.Need-loop-init invariant_loop decreases_loop
+loop_holds c = search rules
 
-cast-model-byte : tie.Need-overflow-cast-model-byte invariant-loop decreases-loop
-cast-model-byte c = search rules
+cast_model_byte : tie.Need-overflow-cast-model-byte invariant_loop decreases_loop
+cast_model_byte c = search rules
 
-model-byte-requires : tie.Need-model-byte-requires invariant-loop decreases-loop
-model-byte-requires c κs = search rules
+model_byte_requires : tie.Need-model-byte-requires invariant_loop decreases_loop
+model_byte_requires c κs = search rules
 
-array-write-model : tie.Need-array-write-model invariant-loop decreases-loop
-array-write-model c = search rules
+array_write_model : tie.Need-array-write-model invariant_loop decreases_loop
+array_write_model c = search rules
 
-add-i : tie.Need-overflow-add-i invariant-loop decreases-loop
-add-i c = search rules
+add_i : tie.Need-overflow-add-i invariant_loop decreases_loop
+add_i c = search rules
 
-loop-less : tie.Need-loop-smaller invariant-loop decreases-loop
-loop-less c = search rules
+loop_less : tie.Need-loop-smaller invariant_loop decreases_loop
+loop_less c = search rules
 
-loop-again : tie.Need-loop-preserved invariant-loop decreases-loop
-loop-again c = search rules
+loop_again : tie.Need-loop-preserved invariant_loop decreases_loop
+loop_again c = search rules
 
-returns : tie.Need-returns invariant-loop decreases-loop
+returns : tie.Need-returns invariant_loop decreases_loop
 returns c = search rules
 
-pub model-of-spec : {M : Type 1} → statement M
-model-of-spec =
+pub model_of_spec : {M : Type 1} → statement M
+model_of_spec =
     tie.close
     (tie.spec
-    invariant-loop
-    decreases-loop
-    loop-holds
-    cast-model-byte
-    model-byte-requires
-    array-write-model
-    add-i
-    loop-less
-    loop-again
+    invariant_loop
+    decreases_loop
+    loop_holds
+    cast_model_byte
+    model_byte_requires
+    array_write_model
+    add_i
+    loop_less
+    loop_again
     returns)

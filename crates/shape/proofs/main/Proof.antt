@@ -2,33 +2,33 @@
 use borrow.Author.Rules.{rules}
 use mathlib.Core.Path.{sym}
 use lib.Seq.{length-take-le}
-use Rattle.print.specs.PrintsLaws.{printed-within}
+use Rattle.print.specs.PrintsLaws.{printed_within}
 use Rattle.shape.proofs.main.Statement.{statement}
 use Rattle.shape.proofs.main.Tie as tie
 
-slice-aggregate-read-full : tie.Need-slice-aggregate-read-full
-slice-aggregate-read-full c = search rules
+slice_aggregate_read_full : tie.Need-slice-aggregate-read-full
+slice_aggregate_read_full c = search rules
 
-read-full-requires : tie.Need-read-full-requires
-read-full-requires c κs = search rules
+read_full_requires : tie.Need-read-full-requires
+read_full_requires c κs = search rules
 
-array-share-prefix-input : tie.Need-array-share-prefix-input
-array-share-prefix-input c = search rules
+array_share_prefix_input : tie.Need-array-share-prefix-input
+array_share_prefix_input c = search rules
 
-slice-aggregate-put-printed : tie.Need-slice-aggregate-put-printed
-slice-aggregate-put-printed c = search rules
+slice_aggregate_put_printed : tie.Need-slice-aggregate-put-printed
+slice_aggregate_put_printed c = search rules
 
-put-printed-requires : tie.Need-put-printed-requires
-put-printed-requires c κs = search rules
+put_printed_requires : tie.Need-put-printed-requires
+put_printed_requires c κs = search rules
 
-array-share-prefix-out : tie.Need-array-share-prefix-out
-array-share-prefix-out c = printed-within c.put-printed.ensures
+array_share_prefix_out : tie.Need-array-share-prefix-out
+array_share_prefix_out c = printed_within c.put_printed.ensures
 
-slice-aggregate-write-all : tie.Need-slice-aggregate-write-all
-slice-aggregate-write-all c = sym (length-take-le c.before.put-printed.result _ (printed-within c.before.put-printed.ensures))
+slice_aggregate_write_all : tie.Need-slice-aggregate-write-all
+slice_aggregate_write_all c = sym (length-take-le c.before.put_printed.result _ (printed_within c.before.put_printed.ensures))
 
-write-all-requires : tie.Need-write-all-requires
-write-all-requires c κs = search rules
+write_all_requires : tie.Need-write-all-requires
+write_all_requires c κs = search rules
 
 returns : tie.Need-returns
 returns c = search rules
@@ -37,12 +37,12 @@ pub main_spec : {M : Type 1} → statement M
 main_spec =
     tie.close
     (tie.spec
-    slice-aggregate-read-full
-    read-full-requires
-    array-share-prefix-input
-    slice-aggregate-put-printed
-    put-printed-requires
-    array-share-prefix-out
-    slice-aggregate-write-all
-    write-all-requires
+    slice_aggregate_read_full
+    read_full_requires
+    array_share_prefix_input
+    slice_aggregate_put_printed
+    put_printed_requires
+    array_share_prefix_out
+    slice_aggregate_write_all
+    write_all_requires
     returns)

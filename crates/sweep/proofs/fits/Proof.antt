@@ -1,43 +1,43 @@
 -- `sweep::fits` meets its contract. Assumes nothing.
 use borrow.Author.Rules.{rules}
-use Rattle.judge.specs.Fitting.{fits-short, fits_not}
-use Rattle.sweep.specs.StartLaws.{is-over, is-judged}
+use Rattle.judge.specs.Fitting.{fits_short, fits_not}
+use Rattle.sweep.specs.StartLaws.{is_over, is_judged}
 use Rattle.sweep.proofs.fits.Statement.{statement}
 use Rattle.sweep.proofs.fits.Tie as tie
 
-element-copy-out-if1 : tie.Need-element-copy-out-if1
-element-copy-out-if1 c = search rules
+element_copy_out_if1 : tie.Need-element-copy-out-if1
+element_copy_out_if1 c = search rules
 
 returns : tie.Need-returns
-returns c = is-over _ _ _ c.if1.true
+returns c = is_over _ _ _ c.if1.true
 
-node-holds-requires : tie.Need-node-holds-requires
-node-holds-requires c κs = search rules
+node_holds_requires : tie.Need-node-holds-requires
+node_holds_requires c κs = search rules
 
-element-copy-out-is-short : tie.Need-element-copy-out-is-short
-element-copy-out-is-short c = search rules
+element_copy_out_is_short : tie.Need-element-copy-out-is-short
+element_copy_out_is_short c = search rules
 
-element-copy-out-is-short-2 : tie.Need-element-copy-out-is-short-2
-element-copy-out-is-short-2 c = search rules
+element_copy_out_is_short_2 : tie.Need-element-copy-out-is-short-2
+element_copy_out_is_short_2 c = search rules
 
-is-short-requires : tie.Need-is-short-requires
-is-short-requires c κs = search rules
+is_short_requires : tie.Need-is-short-requires
+is_short_requires c κs = search rules
 
-returns-2 : tie.Need-returns-2
-returns-2 c = is-judged _ _ _ _ c.before.before.before.before.before.if1.false (fits-short _ _ _ c.before.before.before.before.before.before.before.requires.0 _ c.before.before.before.before.before.before.before.requires.1 _ c.before.before.before.before.node-holds.ensures c.before.before.before.if2.true _ c.is-short.ensures)
+returns_2 : tie.Need-returns-2
+returns_2 c = is_judged _ _ _ _ c.before.before.before.before.before.if1.false (fits_short _ _ _ c.before.before.before.before.before.before.before.requires.0 _ c.before.before.before.before.before.before.before.requires.1 _ c.before.before.before.before.node_holds.ensures c.before.before.before.if2.true _ c.is_short.ensures)
 
-returns-3 : tie.Need-returns-3
-returns-3 c = is-judged _ _ _ _ c.before.before.if1.false (fits_not _ _ _ c.before.before.before.before.requires.0 _ c.before.before.before.before.requires.1 _ c.before.node-holds.ensures c.if2.false)
+returns_3 : tie.Need-returns-3
+returns_3 c = is_judged _ _ _ _ c.before.before.if1.false (fits_not _ _ _ c.before.before.before.before.requires.0 _ c.before.before.before.before.requires.1 _ c.before.node_holds.ensures c.if2.false)
 
-pub fits-spec : {M : Type 1} → statement M
-fits-spec =
+pub fits_spec : {M : Type 1} → statement M
+fits_spec =
     tie.close
     (tie.spec
-    element-copy-out-if1
+    element_copy_out_if1
     returns
-    node-holds-requires
-    element-copy-out-is-short
-    element-copy-out-is-short-2
-    is-short-requires
-    returns-2
-    returns-3)
+    node_holds_requires
+    element_copy_out_is_short
+    element_copy_out_is_short_2
+    is_short_requires
+    returns_2
+    returns_3)

@@ -3,39 +3,39 @@ use borrow.Author.Rules.{rules}
 use mathlib.Core.Path.{sym, subst, ◌∙◌}
 use borrow.Author.Tests.{not-true, not-false}
 use Rattle.terms.specs.Terms.{EndsIs}
-use Rattle.terms.specs.TermLaws.{dot-wrong, dot-nil, word-wrong, open-wrong, name-ended}
+use Rattle.terms.specs.TermLaws.{dot_wrong, dot_nil, word_wrong, open_wrong, name_ended}
 use Rattle.terms.proofs.ended.Statement.{statement}
 use Rattle.terms.proofs.ended.Tie as tie
 
-shared-slice-read-b : tie.Need-shared-slice-read-b
-shared-slice-read-b c = search rules
+shared_slice_read_b : tie.Need-shared-slice-read-b
+shared_slice_read_b c = search rules
 
 returns : tie.Need-returns
-returns c = let b = c.before.before.before.before in let a = b.args in dot-wrong a.s.now a.last a.w a.at b.requires.0 b.requires.2 c.before.if1.true c.if2.true
+returns c = let b = c.before.before.before.before in let a = b.args in dot_wrong a.s.now a.last a.w a.at b.requires.0 b.requires.2 c.before.if1.true c.if2.true
 
-add-nil : tie.Need-overflow-add-nil
-add-nil c = search rules
+add_nil : tie.Need-overflow-add-nil
+add_nil c = search rules
 
-nil-requires : tie.Need-nil-requires
-nil-requires c κs = search rules
+nil_requires : tie.Need-nil-requires
+nil_requires c κs = search rules
 
-returns-2 : tie.Need-returns-2
-returns-2 c = let b = c.before.before.before.before.before in let a = b.args in dot-nil a.s.now a.last a.w a.at b.requires.0 b.requires.2 c.before.before.if1.true c.before.if2.false c.nil.result c.nil.ensures
+returns_2 : tie.Need-returns-2
+returns_2 c = let b = c.before.before.before.before.before in let a = b.args in dot_nil a.s.now a.last a.w a.at b.requires.0 b.requires.2 c.before.before.if1.true c.before.if2.false c.nil.result c.nil.ensures
 
-is-word-requires : tie.Need-is-word-requires
-is-word-requires c κs = search rules
+is_word_requires : tie.Need-is-word-requires
+is_word_requires c κs = search rules
 
-returns-3 : tie.Need-returns-3
-returns-3 c = let b = c.before.before.before.before.before in let a = b.args in word-wrong a.s.now a.last a.w a.at b.requires.0 b.requires.2 c.before.before.if1.false (sym c.before.is_IsWord.ensures ∙ c.if3.true)
+returns_3 : tie.Need-returns-3
+returns_3 c = let b = c.before.before.before.before.before in let a = b.args in word_wrong a.s.now a.last a.w a.at b.requires.0 b.requires.2 c.before.before.if1.false (sym c.before.is_is_word.ensures ∙ c.if3.true)
 
-ends-requires : tie.Need-ends-requires
-ends-requires c κs = search rules
+ends_requires : tie.Need-ends-requires
+ends_requires c κs = search rules
 
-returns-4 : tie.Need-returns-4
-returns-4 c = let b = c.before.before.before.before.before.before.before in let a = b.args in open-wrong a.s.now a.last a.w a.at b.requires.0 b.requires.2 c.before.before.before.before.if1.false (sym c.before.before.before.is_IsWord.ensures ∙ c.before.before.if3.false) (subst (EndsIs a.s.now a.last a.at) (not-true c.before.ends.result c.if4.true) c.before.ends.ensures)
+returns_4 : tie.Need-returns-4
+returns_4 c = let b = c.before.before.before.before.before.before.before in let a = b.args in open_wrong a.s.now a.last a.w a.at b.requires.0 b.requires.2 c.before.before.before.before.if1.false (sym c.before.before.before.is_is_word.ensures ∙ c.before.before.if3.false) (subst (EndsIs a.s.now a.last a.at) (not-true c.before.ends.result c.if4.true) c.before.ends.ensures)
 
-returns-5 : tie.Need-returns-5
-returns-5 c = let b = c.before.before.before.before.before.before.before in let a = b.args in name-ended a.s.now a.last a.w a.at b.requires.0 b.requires.2 b.requires.1 (sym c.before.before.before.is_IsWord.ensures ∙ c.before.before.if3.false) (subst (EndsIs a.s.now a.last a.at) (not-false c.before.ends.result c.if4.false) c.before.ends.ensures)
+returns_5 : tie.Need-returns-5
+returns_5 c = let b = c.before.before.before.before.before.before.before in let a = b.args in name_ended a.s.now a.last a.w a.at b.requires.0 b.requires.2 b.requires.1 (sym c.before.before.before.is_is_word.ensures ∙ c.before.before.if3.false) (subst (EndsIs a.s.now a.last a.at) (not-false c.before.ends.result c.if4.false) c.before.ends.ensures)
 
-pub ended-spec : {M : Type 1} → statement M
-ended-spec = tie.close (tie.spec shared-slice-read-b returns add-nil nil-requires returns-2 is-word-requires returns-3 ends-requires returns-4 returns-5)
+pub ended_spec : {M : Type 1} → statement M
+ended_spec = tie.close (tie.spec shared_slice_read_b returns add_nil nil_requires returns_2 is_word_requires returns_3 ends_requires returns_4 returns_5)

@@ -3,262 +3,262 @@ use borrow.Author.Rules.{rules}
 use Prim.Native.Nat.{ℕ, ◌+◌, ◌*◌, ◌<◌, ◌≤◌}
 use native.Mathlib.Omega.{arith}
 use Rattle.logic.specs.Table.{op_of, tree}
-use Rattle.rows.specs.Table.{apartRows}
-use Rattle.rows.specs.TableLaws.{rows-some}
-use Rattle.rowbytes.specs.WrittenLaws.{row-after, space-after}
-use Rattle.logic.specs.KnownLaws.{operator-some, lower}
-use Rattle.treerows.specs.TreeLaws.{first_some, next-some, two-trees, conj-rows, disj-rows, but-rows, neg-rows, sep-encoded, sept-encoded, room-first, room-second, room-none, room-conj, room-disj, room-but, room-neg, room-sep, room-sept, room-atom, room-join, atom-encoded, join-encoded}
+use Rattle.rows.specs.Table.{apart_row_count}
+use Rattle.rows.specs.TableLaws.{rows_some}
+use Rattle.rowbytes.specs.WrittenLaws.{row_after, space_after}
+use Rattle.logic.specs.KnownLaws.{operator_some, lower}
+use Rattle.treerows.specs.TreeLaws.{first_some, next_some, two_trees, conj_rows, disj_rows, but_rows, neg_rows, sep_encoded, sept_encoded, room_first, room_second, room_none, room_conj, room_disj, room_but, room_neg, room_sep, room_sept, room_atom, room_join, atom_encoded, join_encoded}
 use borrow.Fn.Kinds.{In}
 use borrow.Fn.PlainCycle.{Measures, is, falls, and}
 use Rattle.treerows.proofs.both.Reads as both
-use Rattle.treerows.proofs.both.Kinds as both-kinds
-use Rattle.treerows.proofs.+both_join_node.Lts-both as both-lts
+use Rattle.treerows.proofs.both.Kinds as both_kinds
+use Rattle.treerows.proofs.+both_join_node.Lts-both as both_lts
 use Rattle.treerows.proofs.join.Reads as join
-use Rattle.treerows.proofs.join.Kinds as join-kinds
-use Rattle.treerows.proofs.+both_join_node.Lts-join as join-lts
+use Rattle.treerows.proofs.join.Kinds as join_kinds
+use Rattle.treerows.proofs.+both_join_node.Lts-join as join_lts
 use Rattle.treerows.proofs.node.Reads as node
-use Rattle.treerows.proofs.node.Kinds as node-kinds
-use Rattle.treerows.proofs.+both_join_node.Lts-node as node-lts
-use Rattle.rowbytes.proofs.put_and.Reads as put-and-reads
-use Rattle.ownrows.proofs.put_atom.Reads as put-atom-reads
-use Rattle.ownrows.proofs.put_but.Reads as put-but-reads
-use Rattle.rowbytes.proofs.put_not.Reads as put-not-reads
-use Rattle.rowbytes.proofs.put_or.Reads as put-or-reads
-use Rattle.ownrows.proofs.put_sep.Reads as put-sep-reads
-use Rattle.ownrows.proofs.put_sept.Reads as put-sept-reads
-use Rattle.leaves.proofs.short.Reads as short-reads
-use Rattle.leaves.proofs.wide.Reads as wide-reads
+use Rattle.treerows.proofs.node.Kinds as node_kinds
+use Rattle.treerows.proofs.+both_join_node.Lts-node as node_lts
+use Rattle.rowbytes.proofs.put_and.Reads as put_and_reads
+use Rattle.ownrows.proofs.put_atom.Reads as put_atom_reads
+use Rattle.ownrows.proofs.put_but.Reads as put_but_reads
+use Rattle.rowbytes.proofs.put_not.Reads as put_not_reads
+use Rattle.rowbytes.proofs.put_or.Reads as put_or_reads
+use Rattle.ownrows.proofs.put_sep.Reads as put_sep_reads
+use Rattle.ownrows.proofs.put_sept.Reads as put_sept_reads
+use Rattle.leaves.proofs.short.Reads as short_reads
+use Rattle.leaves.proofs.wide.Reads as wide_reads
 use Rattle.treerows.proofs.+both_join_node.{statement}
 use Rattle.treerows.proofs.+both_join_node.Tie.{close}
 
-abbrev μ-both : Measures 2 both-kinds.ps ℕ
+abbrev μ-both : Measures 2 both_kinds.ps ℕ
 μ-both κs a = 3 * a.1.1.1.1.0
 
-abbrev μ-join : Measures 2 join-kinds.ps ℕ
+abbrev μ-join : Measures 2 join_kinds.ps ℕ
 μ-join κs a = 3 * a.1.1.1.1.0 + 1
 
-abbrev μ-node : Measures 2 node-kinds.ps ℕ
+abbrev μ-node : Measures 2 node_kinds.ps ℕ
 μ-node κs a = 3 * a.1.1.1.1.0 + 2
 
-abbrev both_at : ℕ → In 2 both-kinds.ps
-both_at t = and 2 both-kinds.ps (is 2 both-kinds.ps μ-both t) both.Pre
+abbrev both_at : ℕ → In 2 both_kinds.ps
+both_at t = and 2 both_kinds.ps (is 2 both_kinds.ps μ-both t) both.Pre
 
-abbrev both_below : ℕ → In 2 both-kinds.ps
-both_below t = and 2 both-kinds.ps (falls 2 both-kinds.ps ◌<◌ μ-both t) both.Pre
+abbrev both_below : ℕ → In 2 both_kinds.ps
+both_below t = and 2 both_kinds.ps (falls 2 both_kinds.ps ◌<◌ μ-both t) both.Pre
 
-abbrev join-at : ℕ → In 2 join-kinds.ps
-join-at t = and 2 join-kinds.ps (is 2 join-kinds.ps μ-join t) join.Pre
+abbrev join_at : ℕ → In 2 join_kinds.ps
+join_at t = and 2 join_kinds.ps (is 2 join_kinds.ps μ-join t) join.Pre
 
-abbrev join-below : ℕ → In 2 join-kinds.ps
-join-below t = and 2 join-kinds.ps (falls 2 join-kinds.ps ◌<◌ μ-join t) join.Pre
+abbrev join_below : ℕ → In 2 join_kinds.ps
+join_below t = and 2 join_kinds.ps (falls 2 join_kinds.ps ◌<◌ μ-join t) join.Pre
 
-abbrev node_at : ℕ → In 2 node-kinds.ps
-node_at t = and 2 node-kinds.ps (is 2 node-kinds.ps μ-node t) node.Pre
+abbrev node_at : ℕ → In 2 node_kinds.ps
+node_at t = and 2 node_kinds.ps (is 2 node_kinds.ps μ-node t) node.Pre
 
-abbrev node-below : ℕ → In 2 node-kinds.ps
-node-below t = and 2 node-kinds.ps (falls 2 node-kinds.ps ◌<◌ μ-node t) node.Pre
+abbrev node_below : ℕ → In 2 node_kinds.ps
+node_below t = and 2 node_kinds.ps (falls 2 node_kinds.ps ◌<◌ μ-node t) node.Pre
 
-abbrev both-uses : ℕ → both-lts.Claims
-both-uses t = (node-below t, node.Post)
+abbrev both_uses : ℕ → both_lts.Claims
+both_uses t = (node_below t, node.Post)
 
-abbrev join-uses : ℕ → join-lts.Claims
-join-uses t = (both_below t, both.Post, put-and-reads.Asked, put-and-reads.Learnt, put-or-reads.Asked, put-or-reads.Learnt, put-but-reads.Asked, put-but-reads.Learnt, node-below t, node.Post, put-not-reads.Asked, put-not-reads.Learnt, put-sep-reads.Asked, put-sep-reads.Learnt, put-sept-reads.Asked, put-sept-reads.Learnt)
+abbrev join_uses : ℕ → join_lts.Claims
+join_uses t = (both_below t, both.Post, put_and_reads.Asked, put_and_reads.Learnt, put_or_reads.Asked, put_or_reads.Learnt, put_but_reads.Asked, put_but_reads.Learnt, node_below t, node.Post, put_not_reads.Asked, put_not_reads.Learnt, put_sep_reads.Asked, put_sep_reads.Learnt, put_sept_reads.Asked, put_sept_reads.Learnt)
 
-abbrev node-uses : ℕ → node-lts.Claims
-node-uses t = (short-reads.Asked, short-reads.Learnt, put-atom-reads.Asked, put-atom-reads.Learnt, wide-reads.Asked, wide-reads.Learnt, join-below t, join.Post)
+abbrev node_uses : ℕ → node_lts.Claims
+node_uses t = (short_reads.Asked, short_reads.Learnt, put_atom_reads.Asked, put_atom_reads.Learnt, wide_reads.Asked, wide_reads.Learnt, join_below t, join.Post)
 
-both-node-requires :
-    (t : ℕ) → both-lts.Need-node-requires (both-uses t) (both_at t) both.Post
-both-node-requires t c κs =
-    let z = c.before.before.before.requires.1 in (omega (arith, c.before.before.before.requires.0), (omega (arith, z.0, z.1), z.3, z.4, room-first _ _ _ _ _ _ z.5))
+both_node_requires :
+    (t : ℕ) → both_lts.Need-node-requires (both_uses t) (both_at t) both.Post
+both_node_requires t c κs =
+    let z = c.before.before.before.requires.1 in (omega (arith, c.before.before.before.requires.0), (omega (arith, z.0, z.1), z.3, z.4, room_first _ _ _ _ _ _ z.5))
 
-both-node-requires-2 :
-    (t : ℕ) → both-lts.Need-node-requires-2 (both-uses t) (both_at t) both.Post
-both-node-requires-2 t c κs =
-    let z = c.before.before.before.before.before.before.before.requires.1 in (omega (arith, c.before.before.before.before.before.before.before.requires.0), (omega (arith, z.0, z.2), z.3, z.4, room-second _ _ _ _ _ _ _ _ _ _ _ z.5 c.before.before.before.node.ensures c.before.before.before.node.auto.0))
+both_node_requires_2 :
+    (t : ℕ) → both_lts.Need-node-requires-2 (both_uses t) (both_at t) both.Post
+both_node_requires_2 t c κs =
+    let z = c.before.before.before.before.before.before.before.requires.1 in (omega (arith, c.before.before.before.before.before.before.before.requires.0), (omega (arith, z.0, z.2), z.3, z.4, room_second _ _ _ _ _ _ _ _ _ _ _ z.5 c.before.before.before.node.ensures c.before.before.before.node.auto.0))
 
-both-same-length :
-    (t : ℕ) → both-lts.Need-same-length (both-uses t) (both_at t) both.Post
-both-same-length t c = search rules
+both_same_length :
+    (t : ℕ) → both_lts.Need-same-length (both_uses t) (both_at t) both.Post
+both_same_length t c = search rules
 
-both-returns : (t : ℕ) → both-lts.Need-returns (both-uses t) (both_at t) both.Post
-both-returns t c =
-    two-trees _ _ _ _ _ _ _ (room-first _ _ _ _ _ _ c.before.before.before.before.before.before.before.before.before.before.requires.1.5).space c.before.before.before.before.before.before.node.ensures c.before.before.node2.ensures
+both_returns : (t : ℕ) → both_lts.Need-returns (both_uses t) (both_at t) both.Post
+both_returns t c =
+    two_trees _ _ _ _ _ _ _ (room_first _ _ _ _ _ _ c.before.before.before.before.before.before.before.before.before.before.requires.1.5).space c.before.before.before.before.before.before.node.ensures c.before.before.node2.ensures
 
-join-both-requires : (t : ℕ) → join-lts.Need-both-requires (join-uses t) (join-at t) join.Post
-join-both-requires t c κs =
-    let z = c.before.before.before.before.requires.1 in (omega (arith, c.before.before.before.before.requires.0), (z.0, z.1, z.2, z.5, z.6, room-none _ _ _ _ _ _ 1 (room-conj _ _ _ _ _ _ _ z.7 c.before.match.keys1)))
+join_both_requires : (t : ℕ) → join_lts.Need-both-requires (join_uses t) (join_at t) join.Post
+join_both_requires t c κs =
+    let z = c.before.before.before.before.requires.1 in (omega (arith, c.before.before.before.before.requires.0), (z.0, z.1, z.2, z.5, z.6, room_none _ _ _ _ _ _ 1 (room_conj _ _ _ _ _ _ _ z.7 c.before.match.keys1)))
 
-join-sub-put-and : (t : ℕ) → join-lts.Need-overflow-sub-put-and (join-uses t) (join-at t) join.Post
-join-sub-put-and t c =
+join_sub_put_and : (t : ℕ) → join_lts.Need-overflow-sub-put-and (join_uses t) (join_at t) join.Post
+join_sub_put_and t c =
     omega (arith, first_some _ _ _ _ c.before.before.before.before.both.ensures)
 
-join-sub-put-and-2 : (t : ℕ) → join-lts.Need-overflow-sub-put-and-2 (join-uses t) (join-at t) join.Post
-join-sub-put-and-2 t c =
-    omega (arith, next-some _ _ _ _ c.before.before.before.before.before.both.ensures)
+join_sub_put_and_2 : (t : ℕ) → join_lts.Need-overflow-sub-put-and-2 (join_uses t) (join_at t) join.Post
+join_sub_put_and_2 t c =
+    omega (arith, next_some _ _ _ _ c.before.before.before.before.before.both.ensures)
 
-join-put-and-requires : (t : ℕ) → join-lts.Need-put-and-requires (join-uses t) (join-at t) join.Post
-join-put-and-requires t c κs =
-    space-after 1 _ c.before.before.before.before.before.both.ensures.puts (room-conj _ _ _ _ _ _ _ c.before.before.before.before.before.before.before.before.before.before.requires.1.7 c.before.before.before.before.before.before.before.match.keys1).space c.before.before.before.before.before.both.auto.0
+join_put_and_requires : (t : ℕ) → join_lts.Need-put-and-requires (join_uses t) (join_at t) join.Post
+join_put_and_requires t c κs =
+    space_after 1 _ c.before.before.before.before.before.both.ensures.puts (room_conj _ _ _ _ _ _ _ c.before.before.before.before.before.before.before.before.before.before.requires.1.7 c.before.before.before.before.before.before.before.match.keys1).space c.before.before.before.before.before.both.auto.0
 
-join-both-requires-2 : (t : ℕ) → join-lts.Need-both-requires-2 (join-uses t) (join-at t) join.Post
-join-both-requires-2 t c κs =
-    let z = c.before.before.before.before.requires.1 in (omega (arith, c.before.before.before.before.requires.0), (z.0, z.1, z.2, z.5, z.6, room-none _ _ _ _ _ _ 1 (room-disj _ _ _ _ _ _ _ z.7 c.before.match.keys2)))
+join_both_requires_2 : (t : ℕ) → join_lts.Need-both-requires-2 (join_uses t) (join_at t) join.Post
+join_both_requires_2 t c κs =
+    let z = c.before.before.before.before.requires.1 in (omega (arith, c.before.before.before.before.requires.0), (z.0, z.1, z.2, z.5, z.6, room_none _ _ _ _ _ _ 1 (room_disj _ _ _ _ _ _ _ z.7 c.before.match.keys2)))
 
-join-sub-put-or : (t : ℕ) → join-lts.Need-overflow-sub-put-or (join-uses t) (join-at t) join.Post
-join-sub-put-or t c =
+join_sub_put_or : (t : ℕ) → join_lts.Need-overflow-sub-put-or (join_uses t) (join_at t) join.Post
+join_sub_put_or t c =
     omega (arith, first_some _ _ _ _ c.before.before.before.before.both2.ensures)
 
-join-sub-put-or-2 : (t : ℕ) → join-lts.Need-overflow-sub-put-or-2 (join-uses t) (join-at t) join.Post
-join-sub-put-or-2 t c =
-    omega (arith, next-some _ _ _ _ c.before.before.before.before.before.both2.ensures)
+join_sub_put_or_2 : (t : ℕ) → join_lts.Need-overflow-sub-put-or-2 (join_uses t) (join_at t) join.Post
+join_sub_put_or_2 t c =
+    omega (arith, next_some _ _ _ _ c.before.before.before.before.before.both2.ensures)
 
-join-put-or-requires : (t : ℕ) → join-lts.Need-put-or-requires (join-uses t) (join-at t) join.Post
-join-put-or-requires t c κs =
-    space-after 1 _ c.before.before.before.before.before.both2.ensures.puts (room-disj _ _ _ _ _ _ _ c.before.before.before.before.before.before.before.before.before.before.requires.1.7 c.before.before.before.before.before.before.before.match.keys2).space c.before.before.before.before.before.both2.auto.0
+join_put_or_requires : (t : ℕ) → join_lts.Need-put-or-requires (join_uses t) (join_at t) join.Post
+join_put_or_requires t c κs =
+    space_after 1 _ c.before.before.before.before.before.both2.ensures.puts (room_disj _ _ _ _ _ _ _ c.before.before.before.before.before.before.before.before.before.before.requires.1.7 c.before.before.before.before.before.before.before.match.keys2).space c.before.before.before.before.before.both2.auto.0
 
-join-both-requires-3 : (t : ℕ) → join-lts.Need-both-requires-3 (join-uses t) (join-at t) join.Post
-join-both-requires-3 t c κs =
-    let z = c.before.before.before.before.requires.1 in (omega (arith, c.before.before.before.before.requires.0), (z.0, z.1, z.2, z.5, z.6, room-none _ _ _ _ _ _ 2 (room-but _ _ _ _ _ _ _ z.7 c.before.match.keys3)))
+join_both_requires_3 : (t : ℕ) → join_lts.Need-both-requires-3 (join_uses t) (join_at t) join.Post
+join_both_requires_3 t c κs =
+    let z = c.before.before.before.before.requires.1 in (omega (arith, c.before.before.before.before.requires.0), (z.0, z.1, z.2, z.5, z.6, room_none _ _ _ _ _ _ 2 (room_but _ _ _ _ _ _ _ z.7 c.before.match.keys3)))
 
-join-put-but-requires : (t : ℕ) → join-lts.Need-put-but-requires (join-uses t) (join-at t) join.Post
-join-put-but-requires t c κs =
-    let q = c.before.before.before.both3 in (first_some _ _ _ _ q.ensures, next-some _ _ _ _ q.ensures, space-after 2 _ q.ensures.puts (room-but _ _ _ _ _ _ _ c.before.before.before.before.before.before.before.before.requires.1.7 c.before.before.before.before.before.match.keys3).space q.auto.0)
+join_put_but_requires : (t : ℕ) → join_lts.Need-put-but-requires (join_uses t) (join_at t) join.Post
+join_put_but_requires t c κs =
+    let q = c.before.before.before.both3 in (first_some _ _ _ _ q.ensures, next_some _ _ _ _ q.ensures, space_after 2 _ q.ensures.puts (room_but _ _ _ _ _ _ _ c.before.before.before.before.before.before.before.before.requires.1.7 c.before.before.before.before.before.match.keys3).space q.auto.0)
 
-join-node-requires : (t : ℕ) → join-lts.Need-node-requires (join-uses t) (join-at t) join.Post
-join-node-requires t c κs =
-    let z = c.before.before.before.before.requires.1 in (omega (arith, c.before.before.before.before.requires.0), (omega (arith, z.0, z.1), z.5, z.6, (room-neg _ _ _ _ _ _ _ z.7 c.before.match.keys4).0))
+join_node_requires : (t : ℕ) → join_lts.Need-node-requires (join_uses t) (join_at t) join.Post
+join_node_requires t c κs =
+    let z = c.before.before.before.before.requires.1 in (omega (arith, c.before.before.before.before.requires.0), (omega (arith, z.0, z.1), z.5, z.6, (room_neg _ _ _ _ _ _ _ z.7 c.before.match.keys4).0))
 
-join-sub-put-not : (t : ℕ) → join-lts.Need-overflow-sub-put-not (join-uses t) (join-at t) join.Post
-join-sub-put-not t c =
-    let a = c.before.before.before.before.before.before.before.before.before.args in omega (arith, row-after c.before.before.before.before.node.ensures, rows-some a.profile a.n (tree a.f.now a.x))
+join_sub_put_not : (t : ℕ) → join_lts.Need-overflow-sub-put-not (join_uses t) (join_at t) join.Post
+join_sub_put_not t c =
+    let a = c.before.before.before.before.before.before.before.before.before.args in omega (arith, row_after c.before.before.before.before.node.ensures, rows_some a.profile a.n (tree a.f.now a.x))
 
-join-put-not-requires : (t : ℕ) → join-lts.Need-put-not-requires (join-uses t) (join-at t) join.Post
-join-put-not-requires t c κs =
-    space-after 1 _ c.before.before.before.before.node.ensures (room-neg _ _ _ _ _ _ _ c.before.before.before.before.before.before.before.before.before.requires.1.7 c.before.before.before.before.before.before.match.keys4).1 c.before.before.before.before.node.auto.0
+join_put_not_requires : (t : ℕ) → join_lts.Need-put-not-requires (join_uses t) (join_at t) join.Post
+join_put_not_requires t c κs =
+    space_after 1 _ c.before.before.before.before.node.ensures (room_neg _ _ _ _ _ _ _ c.before.before.before.before.before.before.before.before.before.requires.1.7 c.before.before.before.before.before.before.match.keys4).1 c.before.before.before.before.node.auto.0
 
-join-add-both : (t : ℕ) → join-lts.Need-overflow-add-both (join-uses t) (join-at t) join.Post
-join-add-both t c =
-    omega (arith, (room-sep _ _ _ _ _ _ _ c.before.before.before.requires.1.7 c.match.keys5).1)
+join_add_both : (t : ℕ) → join_lts.Need-overflow-add-both (join_uses t) (join_at t) join.Post
+join_add_both t c =
+    omega (arith, (room_sep _ _ _ _ _ _ _ c.before.before.before.requires.1.7 c.match.keys5).1)
 
-join-add-both-2 : (t : ℕ) → join-lts.Need-overflow-add-both-2 (join-uses t) (join-at t) join.Post
-join-add-both-2 t c =
-    omega (arith, (room-sep _ _ _ _ _ _ _ c.before.before.before.before.requires.1.7 c.before.match.keys5).1)
+join_add_both_2 : (t : ℕ) → join_lts.Need-overflow-add-both-2 (join_uses t) (join_at t) join.Post
+join_add_both_2 t c =
+    omega (arith, (room_sep _ _ _ _ _ _ _ c.before.before.before.before.requires.1.7 c.before.match.keys5).1)
 
-join-both-requires-4 : (t : ℕ) → join-lts.Need-both-requires-4 (join-uses t) (join-at t) join.Post
-join-both-requires-4 t c κs =
-    let z = c.before.before.before.before.requires.1 in (omega (arith, c.before.before.before.before.requires.0), (z.0, z.1, z.2, z.5, z.6, room-none _ _ _ _ _ _ _ (room-sep _ _ _ _ _ _ _ z.7 c.before.match.keys5).0))
+join_both_requires_4 : (t : ℕ) → join_lts.Need-both-requires-4 (join_uses t) (join_at t) join.Post
+join_both_requires_4 t c κs =
+    let z = c.before.before.before.before.requires.1 in (omega (arith, c.before.before.before.before.requires.0), (z.0, z.1, z.2, z.5, z.6, room_none _ _ _ _ _ _ _ (room_sep _ _ _ _ _ _ _ z.7 c.before.match.keys5).0))
 
-join-put-sep-requires : (t : ℕ) → join-lts.Need-put-sep-requires (join-uses t) (join-at t) join.Post
-join-put-sep-requires t c κs =
-    let q = c.before.before.before.both4 in let r = room-sep _ _ _ _ _ _ _ c.before.before.before.before.before.before.before.before.requires.1.7 c.before.before.before.before.before.match.keys5 in (first_some _ _ _ _ q.ensures, next-some _ _ _ _ q.ensures, omega (arith, r.1), space-after (3 + apartRows c.before.before.before.before.before.before.before.before.args.profile) _ q.ensures.puts r.0.space q.auto.0)
+join_put_sep_requires : (t : ℕ) → join_lts.Need-put-sep-requires (join_uses t) (join_at t) join.Post
+join_put_sep_requires t c κs =
+    let q = c.before.before.before.both4 in let r = room_sep _ _ _ _ _ _ _ c.before.before.before.before.before.before.before.before.requires.1.7 c.before.before.before.before.before.match.keys5 in (first_some _ _ _ _ q.ensures, next_some _ _ _ _ q.ensures, omega (arith, r.1), space_after (3 + apart_row_count c.before.before.before.before.before.before.before.before.args.profile) _ q.ensures.puts r.0.space q.auto.0)
 
-join-add-both-3 : (t : ℕ) → join-lts.Need-overflow-add-both-3 (join-uses t) (join-at t) join.Post
-join-add-both-3 t c =
-    omega (arith, (room-sept _ _ _ _ _ _ _ c.before.before.before.requires.1.7 (omega arith)).1, (room-sept _ _ _ _ _ _ _ c.before.before.before.requires.1.7 (omega arith)).2)
+join_add_both_3 : (t : ℕ) → join_lts.Need-overflow-add-both-3 (join_uses t) (join_at t) join.Post
+join_add_both_3 t c =
+    omega (arith, (room_sept _ _ _ _ _ _ _ c.before.before.before.requires.1.7 (omega arith)).1, (room_sept _ _ _ _ _ _ _ c.before.before.before.requires.1.7 (omega arith)).2)
 
-join-add-t51 : (t : ℕ) → join-lts.Need-overflow-add-t51 (join-uses t) (join-at t) join.Post
-join-add-t51 t c =
-    omega (arith, (room-sept _ _ _ _ _ _ _ c.before.before.before.requires.1.7 (omega arith)).1, (room-sept _ _ _ _ _ _ _ c.before.before.before.requires.1.7 (omega arith)).2)
+join_add_t51 : (t : ℕ) → join_lts.Need-overflow-add-t51 (join_uses t) (join_at t) join.Post
+join_add_t51 t c =
+    omega (arith, (room_sept _ _ _ _ _ _ _ c.before.before.before.requires.1.7 (omega arith)).1, (room_sept _ _ _ _ _ _ _ c.before.before.before.requires.1.7 (omega arith)).2)
 
-join-add-both-4 : (t : ℕ) → join-lts.Need-overflow-add-both-4 (join-uses t) (join-at t) join.Post
-join-add-both-4 t c =
-    omega (arith, (room-sept _ _ _ _ _ _ _ c.before.before.before.before.requires.1.7 (omega arith)).1)
+join_add_both_4 : (t : ℕ) → join_lts.Need-overflow-add-both-4 (join_uses t) (join_at t) join.Post
+join_add_both_4 t c =
+    omega (arith, (room_sept _ _ _ _ _ _ _ c.before.before.before.before.requires.1.7 (omega arith)).1)
 
-join-both-requires-5 : (t : ℕ) → join-lts.Need-both-requires-5 (join-uses t) (join-at t) join.Post
-join-both-requires-5 t c κs =
-    let z = c.before.before.before.before.requires.1 in (omega (arith, c.before.before.before.before.requires.0), (z.0, z.1, z.2, z.5, z.6, room-none _ _ _ _ _ _ _ (room-sept _ _ _ _ _ _ _ z.7 (omega arith)).0))
+join_both_requires_5 : (t : ℕ) → join_lts.Need-both-requires-5 (join_uses t) (join_at t) join.Post
+join_both_requires_5 t c κs =
+    let z = c.before.before.before.before.requires.1 in (omega (arith, c.before.before.before.before.requires.0), (z.0, z.1, z.2, z.5, z.6, room_none _ _ _ _ _ _ _ (room_sept _ _ _ _ _ _ _ z.7 (omega arith)).0))
 
-join-put-sept-requires : (t : ℕ) → join-lts.Need-put-sept-requires (join-uses t) (join-at t) join.Post
-join-put-sept-requires t c κs =
-    let q = c.before.before.before.both5 in let r = room-sept _ _ _ _ _ _ _ c.before.before.before.before.before.before.before.before.requires.1.7 (omega arith) in (first_some _ _ _ _ q.ensures, next-some _ _ _ _ q.ensures, omega (arith, r.1), space-after (5 + apartRows c.before.before.before.before.before.before.before.before.args.profile) _ q.ensures.puts r.0.space q.auto.0)
+join_put_sept_requires : (t : ℕ) → join_lts.Need-put-sept-requires (join_uses t) (join_at t) join.Post
+join_put_sept_requires t c κs =
+    let q = c.before.before.before.both5 in let r = room_sept _ _ _ _ _ _ _ c.before.before.before.before.before.before.before.before.requires.1.7 (omega arith) in (first_some _ _ _ _ q.ensures, next_some _ _ _ _ q.ensures, omega (arith, r.1), space_after (5 + apart_row_count c.before.before.before.before.before.before.before.before.args.profile) _ q.ensures.puts r.0.space q.auto.0)
 
-join-same-length : (t : ℕ) → join-lts.Need-same-length (join-uses t) (join-at t) join.Post
-join-same-length t c = search rules
+join_same_length : (t : ℕ) → join_lts.Need-same-length (join_uses t) (join_at t) join.Post
+join_same_length t c = search rules
 
-join-returns : (t : ℕ) → join-lts.Need-returns (join-uses t) (join-at t) join.Post
-join-returns t c =
-    conj-rows _ _ _ _ _ _ _ _ c.before.before.before.before.before.before.before.before.before.before.match.keys1 (room-conj _ _ _ _ _ _ _ c.before.before.before.before.before.before.before.before.before.before.before.before.before.requires.1.7 c.before.before.before.before.before.before.before.before.before.before.match.keys1).space c.before.before.before.before.before.before.before.before.both.ensures c.before.before.put-and.ensures
+join_returns : (t : ℕ) → join_lts.Need-returns (join_uses t) (join_at t) join.Post
+join_returns t c =
+    conj_rows _ _ _ _ _ _ _ _ c.before.before.before.before.before.before.before.before.before.before.match.keys1 (room_conj _ _ _ _ _ _ _ c.before.before.before.before.before.before.before.before.before.before.before.before.before.requires.1.7 c.before.before.before.before.before.before.before.before.before.before.match.keys1).space c.before.before.before.before.before.before.before.before.both.ensures c.before.before.put_and.ensures
 
-join-same-length-2 : (t : ℕ) → join-lts.Need-same-length-2 (join-uses t) (join-at t) join.Post
-join-same-length-2 t c = search rules
+join_same_length_2 : (t : ℕ) → join_lts.Need-same-length-2 (join_uses t) (join_at t) join.Post
+join_same_length_2 t c = search rules
 
-join-returns-2 : (t : ℕ) → join-lts.Need-returns-2 (join-uses t) (join-at t) join.Post
-join-returns-2 t c =
-    disj-rows _ _ _ _ _ _ _ _ c.before.before.before.before.before.before.before.before.before.before.match.keys2 (room-disj _ _ _ _ _ _ _ c.before.before.before.before.before.before.before.before.before.before.before.before.before.requires.1.7 c.before.before.before.before.before.before.before.before.before.before.match.keys2).space c.before.before.before.before.before.before.before.before.both2.ensures c.before.before.put-or.ensures
+join_returns_2 : (t : ℕ) → join_lts.Need-returns-2 (join_uses t) (join_at t) join.Post
+join_returns_2 t c =
+    disj_rows _ _ _ _ _ _ _ _ c.before.before.before.before.before.before.before.before.before.before.match.keys2 (room_disj _ _ _ _ _ _ _ c.before.before.before.before.before.before.before.before.before.before.before.before.before.requires.1.7 c.before.before.before.before.before.before.before.before.before.before.match.keys2).space c.before.before.before.before.before.before.before.before.both2.ensures c.before.before.put_or.ensures
 
-join-same-length-3 : (t : ℕ) → join-lts.Need-same-length-3 (join-uses t) (join-at t) join.Post
-join-same-length-3 t c = search rules
+join_same_length_3 : (t : ℕ) → join_lts.Need-same-length-3 (join_uses t) (join_at t) join.Post
+join_same_length_3 t c = search rules
 
-join-returns-3 : (t : ℕ) → join-lts.Need-returns-3 (join-uses t) (join-at t) join.Post
-join-returns-3 t c =
-    but-rows _ _ _ _ _ _ _ _ c.before.before.before.before.before.before.before.before.match.keys3 (room-but _ _ _ _ _ _ _ c.before.before.before.before.before.before.before.before.before.before.before.requires.1.7 c.before.before.before.before.before.before.before.before.match.keys3).space c.before.before.before.before.before.before.both3.ensures c.before.before.put-but.ensures
+join_returns_3 : (t : ℕ) → join_lts.Need-returns-3 (join_uses t) (join_at t) join.Post
+join_returns_3 t c =
+    but_rows _ _ _ _ _ _ _ _ c.before.before.before.before.before.before.before.before.match.keys3 (room_but _ _ _ _ _ _ _ c.before.before.before.before.before.before.before.before.before.before.before.requires.1.7 c.before.before.before.before.before.before.before.before.match.keys3).space c.before.before.before.before.before.before.both3.ensures c.before.before.put_but.ensures
 
-join-same-length-4 : (t : ℕ) → join-lts.Need-same-length-4 (join-uses t) (join-at t) join.Post
-join-same-length-4 t c = search rules
+join_same_length_4 : (t : ℕ) → join_lts.Need-same-length-4 (join_uses t) (join_at t) join.Post
+join_same_length_4 t c = search rules
 
-join-returns-4 : (t : ℕ) → join-lts.Need-returns-4 (join-uses t) (join-at t) join.Post
-join-returns-4 t c =
-    neg-rows _ _ _ _ _ _ _ c.before.before.before.before.before.before.before.before.before.match.keys4 (room-neg _ _ _ _ _ _ _ c.before.before.before.before.before.before.before.before.before.before.before.before.requires.1.7 c.before.before.before.before.before.before.before.before.before.match.keys4).1 c.before.before.before.before.before.before.before.node.ensures c.before.before.put-not.ensures
+join_returns_4 : (t : ℕ) → join_lts.Need-returns-4 (join_uses t) (join_at t) join.Post
+join_returns_4 t c =
+    neg_rows _ _ _ _ _ _ _ c.before.before.before.before.before.before.before.before.before.match.keys4 (room_neg _ _ _ _ _ _ _ c.before.before.before.before.before.before.before.before.before.before.before.before.requires.1.7 c.before.before.before.before.before.before.before.before.before.match.keys4).1 c.before.before.before.before.before.before.before.node.ensures c.before.before.put_not.ensures
 
-join-same-length-5 : (t : ℕ) → join-lts.Need-same-length-5 (join-uses t) (join-at t) join.Post
-join-same-length-5 t c = search rules
+join_same_length_5 : (t : ℕ) → join_lts.Need-same-length-5 (join_uses t) (join_at t) join.Post
+join_same_length_5 t c = search rules
 
-join-returns-5 : (t : ℕ) → join-lts.Need-returns-5 (join-uses t) (join-at t) join.Post
-join-returns-5 t c =
-    sep-encoded _ _ _ _ _ _ _ _ c.before.before.before.before.before.before.before.before.match.keys5 (room-sep _ _ _ _ _ _ _ c.before.before.before.before.before.before.before.before.before.before.before.requires.1.7 c.before.before.before.before.before.before.before.before.match.keys5).0.space c.before.before.before.before.before.before.both4.ensures c.before.before.put-sep.ensures
+join_returns_5 : (t : ℕ) → join_lts.Need-returns-5 (join_uses t) (join_at t) join.Post
+join_returns_5 t c =
+    sep_encoded _ _ _ _ _ _ _ _ c.before.before.before.before.before.before.before.before.match.keys5 (room_sep _ _ _ _ _ _ _ c.before.before.before.before.before.before.before.before.before.before.before.requires.1.7 c.before.before.before.before.before.before.before.before.match.keys5).0.space c.before.before.before.before.before.before.both4.ensures c.before.before.put_sep.ensures
 
-join-same-length-6 : (t : ℕ) → join-lts.Need-same-length-6 (join-uses t) (join-at t) join.Post
-join-same-length-6 t c = search rules
+join_same_length_6 : (t : ℕ) → join_lts.Need-same-length-6 (join_uses t) (join_at t) join.Post
+join_same_length_6 t c = search rules
 
-join-returns-6 : (t : ℕ) → join-lts.Need-returns-6 (join-uses t) (join-at t) join.Post
-join-returns-6 t c =
-    sept-encoded _ _ _ _ _ _ _ _ (omega arith) (room-sept _ _ _ _ _ _ _ c.before.before.before.before.before.before.before.before.before.before.before.requires.1.7 (omega arith)).0.space c.before.before.before.before.before.before.both5.ensures c.before.before.put-sept.ensures
+join_returns_6 : (t : ℕ) → join_lts.Need-returns-6 (join_uses t) (join_at t) join.Post
+join_returns_6 t c =
+    sept_encoded _ _ _ _ _ _ _ _ (omega arith) (room_sept _ _ _ _ _ _ _ c.before.before.before.before.before.before.before.before.before.before.before.requires.1.7 (omega arith)).0.space c.before.before.before.before.before.before.both5.ensures c.before.before.put_sept.ensures
 
-node-mul-op : (t : ℕ) → node-lts.Need-overflow-mul-op (node-uses t) (node_at t) node.Post
-node-mul-op t c = search rules
+node_mul_op : (t : ℕ) → node_lts.Need-overflow-mul-op (node_uses t) (node_at t) node.Post
+node_mul_op t c = search rules
 
-node-shared-slice-read-op : (t : ℕ) → node-lts.Need-shared-slice-read-op (node-uses t) (node_at t) node.Post
-node-shared-slice-read-op t c = search rules
+node_shared_slice_read_op : (t : ℕ) → node_lts.Need-shared-slice-read-op (node_uses t) (node_at t) node.Post
+node_shared_slice_read_op t c = search rules
 
-node-mul-x : (t : ℕ) → node-lts.Need-overflow-mul-x (node-uses t) (node_at t) node.Post
-node-mul-x t c = search rules
+node_mul_x : (t : ℕ) → node_lts.Need-overflow-mul-x (node_uses t) (node_at t) node.Post
+node_mul_x t c = search rules
 
-node-add-x : (t : ℕ) → node-lts.Need-overflow-add-x (node-uses t) (node_at t) node.Post
-node-add-x t c = search rules
+node_add_x : (t : ℕ) → node_lts.Need-overflow-add-x (node_uses t) (node_at t) node.Post
+node_add_x t c = search rules
 
-node-shared-slice-read-x : (t : ℕ) → node-lts.Need-shared-slice-read-x (node-uses t) (node_at t) node.Post
-node-shared-slice-read-x t c = search rules
+node_shared_slice_read_x : (t : ℕ) → node_lts.Need-shared-slice-read-x (node_uses t) (node_at t) node.Post
+node_shared_slice_read_x t c = search rules
 
-node-mul-y : (t : ℕ) → node-lts.Need-overflow-mul-y (node-uses t) (node_at t) node.Post
-node-mul-y t c = search rules
+node_mul_y : (t : ℕ) → node_lts.Need-overflow-mul-y (node_uses t) (node_at t) node.Post
+node_mul_y t c = search rules
 
-node-add-y : (t : ℕ) → node-lts.Need-overflow-add-y (node-uses t) (node_at t) node.Post
-node-add-y t c = search rules
+node_add_y : (t : ℕ) → node_lts.Need-overflow-add-y (node_uses t) (node_at t) node.Post
+node_add_y t c = search rules
 
-node-shared-slice-read-y : (t : ℕ) → node-lts.Need-shared-slice-read-y (node-uses t) (node_at t) node.Post
-node-shared-slice-read-y t c = search rules
+node_shared_slice_read_y : (t : ℕ) → node_lts.Need-shared-slice-read-y (node_uses t) (node_at t) node.Post
+node_shared_slice_read_y t c = search rules
 
-node-short-requires : (t : ℕ) → node-lts.Need-short-requires (node-uses t) (node_at t) node.Post
-node-short-requires t c κs = search rules
+node_short_requires : (t : ℕ) → node_lts.Need-short-requires (node_uses t) (node_at t) node.Post
+node_short_requires t c κs = search rules
 
-node-short-requires-2 : (t : ℕ) → node-lts.Need-short-requires-2 (node-uses t) (node_at t) node.Post
-node-short-requires-2 t c κs = search rules
+node_short_requires_2 : (t : ℕ) → node_lts.Need-short-requires-2 (node_uses t) (node_at t) node.Post
+node_short_requires_2 t c κs = search rules
 
-node-put-atom-requires : (t : ℕ) → node-lts.Need-put-atom-requires (node-uses t) (node_at t) node.Post
-node-put-atom-requires t c κs =
+node_put_atom_requires : (t : ℕ) → node_lts.Need-put-atom-requires (node_uses t) (node_at t) node.Post
+node_put_atom_requires t c κs =
     let z = c.before.before.before.before.before.before.before.before.before.before.requires.1 in
     let a = c.before.before.before.before.before.before.before.before.before.before.args in
-    (omega arith, omega arith, z.1, room-atom a.profile z.2.0 a.f.now z.2.1 a.k _ _ a.n z.0 c.before.short.ensures c.short2.ensures _ _ (omega arith) z.3)
+    (omega arith, omega arith, z.1, room_atom a.profile z.2.0 a.f.now z.2.1 a.k _ _ a.n z.0 c.before.short.ensures c.short2.ensures _ _ (omega arith) z.3)
 
-node-wide-requires : (t : ℕ) → node-lts.Need-wide-requires (node-uses t) (node_at t) node.Post
-node-wide-requires t c κs = search rules
+node_wide_requires : (t : ℕ) → node_lts.Need-wide-requires (node_uses t) (node_at t) node.Post
+node_wide_requires t c κs = search rules
 
-node-wide-requires-2 : (t : ℕ) → node-lts.Need-wide-requires-2 (node-uses t) (node_at t) node.Post
-node-wide-requires-2 t c κs = search rules
+node_wide_requires_2 : (t : ℕ) → node_lts.Need-wide-requires-2 (node_uses t) (node_at t) node.Post
+node_wide_requires_2 t c κs = search rules
 
-node-join-requires : (t : ℕ) → node-lts.Need-join-requires (node-uses t) (node_at t) node.Post
-node-join-requires t c κs =
+node_join_requires : (t : ℕ) → node_lts.Need-join-requires (node_uses t) (node_at t) node.Post
+node_join_requires t c κs =
     let z = c.before.before.before.before.before.before.before.before.before.before.before.requires.1 in
     let a = c.before.before.before.before.before.before.before.before.before.before.before.args in
     let l : 5 ≤ op_of a.f.now a.k = omega arith in
@@ -266,102 +266,102 @@ node-join-requires t c κs =
     let ey = c.wide2.ensures.0 in
     let h = lower z.2.0 a.f.now z.2.1 a.k _ _ z.0 ex ey l in (
       omega (arith, c.before.before.before.before.before.before.before.before.before.before.before.requires.0),
-      (z.0, h.0, h.1, l, omega arith, z.1, z.2, room-join a.profile z.2.0 a.f.now z.2.1 a.k _ _ a.n z.0 ex ey _ _ l z.3),
+      (z.0, h.0, h.1, l, omega arith, z.1, z.2, room_join a.profile z.2.0 a.f.now z.2.1 a.k _ _ a.n z.0 ex ey _ _ l z.3),
     )
 
-node-same-length : (t : ℕ) → node-lts.Need-same-length (node-uses t) (node_at t) node.Post
-node-same-length t c = search rules
+node_same_length : (t : ℕ) → node_lts.Need-same-length (node_uses t) (node_at t) node.Post
+node_same_length t c = search rules
 
-node-returns : (t : ℕ) → node-lts.Need-returns (node-uses t) (node_at t) node.Post
-node-returns t c =
+node_returns : (t : ℕ) → node_lts.Need-returns (node_uses t) (node_at t) node.Post
+node_returns t c =
     let z = c.before.before.before.before.before.before.before.before.before.before.before.before.before.requires.1 in
     let a = c.before.before.before.before.before.before.before.before.before.before.before.before.before.args in
-    atom-encoded a.profile z.2.0 a.f.now z.2.1 a.k _ _ a.n z.0 c.before.before.before.before.short.ensures c.before.before.before.short2.ensures _ _ _ _ _ _ (omega arith) c.before.before.put-atom.ensures
+    atom_encoded a.profile z.2.0 a.f.now z.2.1 a.k _ _ a.n z.0 c.before.before.before.before.short.ensures c.before.before.before.short2.ensures _ _ _ _ _ _ (omega arith) c.before.before.put_atom.ensures
 
-node-same-length-2 : (t : ℕ) → node-lts.Need-same-length-2 (node-uses t) (node_at t) node.Post
-node-same-length-2 t c = search rules
+node_same_length_2 : (t : ℕ) → node_lts.Need-same-length-2 (node_uses t) (node_at t) node.Post
+node_same_length_2 t c = search rules
 
-node-returns-2 : (t : ℕ) → node-lts.Need-returns-2 (node-uses t) (node_at t) node.Post
-node-returns-2 t c =
+node_returns_2 : (t : ℕ) → node_lts.Need-returns-2 (node_uses t) (node_at t) node.Post
+node_returns_2 t c =
     let z = c.before.before.before.before.before.before.before.before.before.before.before.before.before.before.requires.1 in
     let a = c.before.before.before.before.before.before.before.before.before.before.before.before.before.before.args in
-    join-encoded a.profile z.2.0 a.f.now z.2.1 a.k _ _ a.n z.0 c.before.before.before.before.wide.ensures.0 c.before.before.before.wide2.ensures.0 _ _ _ _ _ _ (omega arith) c.before.before.join.ensures
+    join_encoded a.profile z.2.0 a.f.now z.2.1 a.k _ _ a.n z.0 c.before.before.before.before.wide.ensures.0 c.before.before.before.wide2.ensures.0 _ _ _ _ _ _ (omega arith) c.before.before.join.ensures
 
-node-returns-3 : (t : ℕ) → node-lts.Need-returns-3 (node-uses t) (node_at t) node.Post
-node-returns-3 t c =
-    let z = c.before.before.before.before.before.before.requires.1 in let a = c.before.before.before.before.before.before.args in absurd (omega (arith, operator-some z.2.0 a.f.now z.2.1 a.k 0 0 z.0))
+node_returns_3 : (t : ℕ) → node_lts.Need-returns-3 (node_uses t) (node_at t) node.Post
+node_returns_3 t c =
+    let z = c.before.before.before.before.before.before.requires.1 in let a = c.before.before.before.before.before.before.args in absurd (omega (arith, operator_some z.2.0 a.f.now z.2.1 a.k 0 0 z.0))
 
-node-returns-4 : (t : ℕ) → node-lts.Need-returns-4 (node-uses t) (node_at t) node.Post
-node-returns-4 t c =
-    let z = c.before.before.before.before.before.before.before.before.requires.1 in let a = c.before.before.before.before.before.before.before.before.args in absurd (omega (arith, operator-some z.2.0 a.f.now z.2.1 a.k 0 0 z.0))
+node_returns_4 : (t : ℕ) → node_lts.Need-returns-4 (node_uses t) (node_at t) node.Post
+node_returns_4 t c =
+    let z = c.before.before.before.before.before.before.before.before.requires.1 in let a = c.before.before.before.before.before.before.before.before.args in absurd (omega (arith, operator_some z.2.0 a.f.now z.2.1 a.k 0 0 z.0))
 
-pub +both-join-node-spec : {M : Type 1} → statement M
-+both-join-node-spec =
+pub +both_join_node_spec : {M : Type 1} → statement M
++both_join_node_spec =
     close
     μ-both
     μ-join
     μ-node
-    (λ t. both-lts.spec (both-uses t) (both_at t)
+    (λ t. both_lts.spec (both_uses t) (both_at t)
     both.Post
-    (both-node-requires t)
-    (both-node-requires-2 t)
-    (both-same-length t)
-    (both-returns t))
-    (λ t. join-lts.spec (join-uses t) (join-at t)
+    (both_node_requires t)
+    (both_node_requires_2 t)
+    (both_same_length t)
+    (both_returns t))
+    (λ t. join_lts.spec (join_uses t) (join_at t)
     join.Post
-    (join-both-requires t)
-    (join-sub-put-and t)
-    (join-sub-put-and-2 t)
-    (join-put-and-requires t)
-    (join-both-requires-2 t)
-    (join-sub-put-or t)
-    (join-sub-put-or-2 t)
-    (join-put-or-requires t)
-    (join-both-requires-3 t)
-    (join-put-but-requires t)
-    (join-node-requires t)
-    (join-sub-put-not t)
-    (join-put-not-requires t)
-    (join-add-both t)
-    (join-add-both-2 t)
-    (join-both-requires-4 t)
-    (join-put-sep-requires t)
-    (join-add-both-3 t)
-    (join-add-t51 t)
-    (join-add-both-4 t)
-    (join-both-requires-5 t)
-    (join-put-sept-requires t)
-    (join-same-length t)
-    (join-returns t)
-    (join-same-length-2 t)
-    (join-returns-2 t)
-    (join-same-length-3 t)
-    (join-returns-3 t)
-    (join-same-length-4 t)
-    (join-returns-4 t)
-    (join-same-length-5 t)
-    (join-returns-5 t)
-    (join-same-length-6 t)
-    (join-returns-6 t))
-    λ t. node-lts.spec (node-uses t) (node_at t)
+    (join_both_requires t)
+    (join_sub_put_and t)
+    (join_sub_put_and_2 t)
+    (join_put_and_requires t)
+    (join_both_requires_2 t)
+    (join_sub_put_or t)
+    (join_sub_put_or_2 t)
+    (join_put_or_requires t)
+    (join_both_requires_3 t)
+    (join_put_but_requires t)
+    (join_node_requires t)
+    (join_sub_put_not t)
+    (join_put_not_requires t)
+    (join_add_both t)
+    (join_add_both_2 t)
+    (join_both_requires_4 t)
+    (join_put_sep_requires t)
+    (join_add_both_3 t)
+    (join_add_t51 t)
+    (join_add_both_4 t)
+    (join_both_requires_5 t)
+    (join_put_sept_requires t)
+    (join_same_length t)
+    (join_returns t)
+    (join_same_length_2 t)
+    (join_returns_2 t)
+    (join_same_length_3 t)
+    (join_returns_3 t)
+    (join_same_length_4 t)
+    (join_returns_4 t)
+    (join_same_length_5 t)
+    (join_returns_5 t)
+    (join_same_length_6 t)
+    (join_returns_6 t))
+    λ t. node_lts.spec (node_uses t) (node_at t)
     node.Post
-    (node-mul-op t)
-    (node-shared-slice-read-op t)
-    (node-mul-x t)
-    (node-add-x t)
-    (node-shared-slice-read-x t)
-    (node-mul-y t)
-    (node-add-y t)
-    (node-shared-slice-read-y t)
-    (node-short-requires t)
-    (node-short-requires-2 t)
-    (node-put-atom-requires t)
-    (node-wide-requires t)
-    (node-wide-requires-2 t)
-    (node-join-requires t)
-    (node-same-length t)
-    (node-returns t)
-    (node-same-length-2 t)
-    (node-returns-2 t)
-    (node-returns-3 t)
-    (node-returns-4 t)
+    (node_mul_op t)
+    (node_shared_slice_read_op t)
+    (node_mul_x t)
+    (node_add_x t)
+    (node_shared_slice_read_x t)
+    (node_mul_y t)
+    (node_add_y t)
+    (node_shared_slice_read_y t)
+    (node_short_requires t)
+    (node_short_requires_2 t)
+    (node_put_atom_requires t)
+    (node_wide_requires t)
+    (node_wide_requires_2 t)
+    (node_join_requires t)
+    (node_same_length t)
+    (node_returns t)
+    (node_same_length_2 t)
+    (node_returns_2 t)
+    (node_returns_3 t)
+    (node_returns_4 t)

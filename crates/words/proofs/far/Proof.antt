@@ -10,38 +10,38 @@ use Rattle.words.specs.Words.{OverBlanks}
 use Rattle.words.proofs.far.Statement.{statement}
 use Rattle.words.proofs.far.Tie as tie
 
-abbrev invariant-loop : tie.invariant-loop
-invariant-loop s at e₀ e = (at ≤ e) × (e ≤ length s) × OverBlanks s at e
+abbrev invariant_loop : tie.invariant-loop
+invariant_loop s at e₀ e = (at ≤ e) × (e ≤ length s) × OverBlanks s at e
 
-abbrev decreases-loop : tie.decreases-loop
-decreases-loop s at e₀ e = length s - e
+abbrev decreases_loop : tie.decreases-loop
+decreases_loop s at e₀ e = length s - e
 
-loop-holds : tie.Need-loop-init invariant-loop decreases-loop
-loop-holds c = (omega arith, search rules, λ j k. k)
+loop_holds : tie.Need-loop-init invariant_loop decreases_loop
+loop_holds c = (omega arith, search rules, λ j k. k)
 
-sub-loop : tie.Need-overflow-sub-loop invariant-loop decreases-loop
-sub-loop c = search rules
+sub_loop : tie.Need-overflow-sub-loop invariant_loop decreases_loop
+sub_loop c = search rules
 
-all-blank-requires : tie.Need-all-blank-requires invariant-loop decreases-loop
-all-blank-requires c κs = search rules
+all_blank_requires : tie.Need-all-blank-requires invariant_loop decreases_loop
+all_blank_requires c κs = search rules
 
-returns : tie.Need-returns invariant-loop decreases-loop
+returns : tie.Need-returns invariant_loop decreases_loop
 returns c = c.before.before.before.loop.invariant
 
-add-e : tie.Need-overflow-add-e invariant-loop decreases-loop
-add-e c = search rules
+add_e : tie.Need-overflow-add-e invariant_loop decreases_loop
+add_e c = search rules
 
-loop-less : tie.Need-loop-smaller invariant-loop decreases-loop
-loop-less c = search rules
+loop_less : tie.Need-loop-smaller invariant_loop decreases_loop
+loop_less c = search rules
 
-loop-again : tie.Need-loop-preserved invariant-loop decreases-loop
-loop-again c =
+loop_again : tie.Need-loop-preserved invariant_loop decreases_loop
+loop_again c =
     let l = c.before.before.before.loop in
-    let t : c.before.all-blank.result ≡ true = not-false c.before.all-blank.result c.if1.false in
-    (omega arith, omega arith, λ j k. l.invariant.2 j (c.before.all-blank.ensures t j k))
+    let t : c.before.all_blank.result ≡ true = not-false c.before.all_blank.result c.if1.false in
+    (omega arith, omega arith, λ j k. l.invariant.2 j (c.before.all_blank.ensures t j k))
 
-returns-2 : tie.Need-returns-2 invariant-loop decreases-loop
-returns-2 c = c.before.loop.invariant
+returns_2 : tie.Need-returns-2 invariant_loop decreases_loop
+returns_2 c = c.before.loop.invariant
 
-pub far-spec : {M : Type 1} → statement M
-far-spec = tie.close (tie.spec invariant-loop decreases-loop loop-holds sub-loop all-blank-requires returns add-e loop-less loop-again returns-2)
+pub far_spec : {M : Type 1} → statement M
+far_spec = tie.close (tie.spec invariant_loop decreases_loop loop_holds sub_loop all_blank_requires returns add_e loop_less loop_again returns_2)

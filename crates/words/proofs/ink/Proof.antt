@@ -5,14 +5,14 @@ use native.Mathlib.Omega.{arith}
 use Rattle.words.proofs.ink.Statement.{statement}
 use Rattle.words.proofs.ink.Tie as tie
 
-is-blank-requires : tie.Need-is-blank-requires
-is-blank-requires c κs = search rules
+is_blank_requires : tie.Need-is-blank-requires
+is_blank_requires c κs = search rules
 
 returns : tie.Need-returns
-returns c = (omega arith, λ z. sym c.before.is-blank.ensures ∙ c.if1.true)
+returns c = (omega arith, λ z. sym c.before.is_blank.ensures ∙ c.if1.true)
 
-returns-2 : tie.Need-returns-2
-returns-2 c = (omega arith, λ z. absurd (omega (arith, z)))
+returns_2 : tie.Need-returns-2
+returns_2 c = (omega arith, λ z. absurd (omega (arith, z)))
 
-pub ink-spec : {M : Type 1} → statement M
-ink-spec = tie.close (tie.spec is-blank-requires returns returns-2)
+pub ink_spec : {M : Type 1} → statement M
+ink_spec = tie.close (tie.spec is_blank_requires returns returns_2)

@@ -3,63 +3,63 @@ use Rattle.std.proofs.Common.{◌-◌, ◌≤◌, rules}
 use Rattle.examples.proofs.sweep.sweep.Statement.{statement}
 use Rattle.examples.proofs.sweep.sweep.Tie as tie
 
-abbrev invariant-loop : tie.invariant-loop
-invariant-loop book wanted bounds base v t₀ stack₀ t stack = stack ≤ 64
+abbrev invariant_loop : tie.invariant-loop
+invariant_loop book wanted bounds base v t₀ stack₀ t stack = stack ≤ 64
 
-abbrev decreases-loop : tie.decreases-loop
-decreases-loop book wanted bounds base v t₀ stack₀ t stack = 64 - stack
+abbrev decreases_loop : tie.decreases-loop
+decreases_loop book wanted bounds base v t₀ stack₀ t stack = 64 - stack
 
-array-read-stack-base : tie.Need-array-read-stack-base invariant-loop decreases-loop
-array-read-stack-base c = search rules
+array_read_stack_base : tie.Need-array-read-stack-base invariant_loop decreases_loop
+array_read_stack_base c = search rules
 
-stack-base-requires : tie.Need-stack-base-requires invariant-loop decreases-loop
-stack-base-requires c κs = search rules
+stack_base_requires : tie.Need-stack-base-requires invariant_loop decreases_loop
+stack_base_requires c κs = search rules
 
-array-read-v : tie.Need-array-read-v invariant-loop decreases-loop
-array-read-v c = search rules
+array_read_v : tie.Need-array-read-v invariant_loop decreases_loop
+array_read_v c = search rules
 
-can-judge-requires : tie.Need-can-judge-requires invariant-loop decreases-loop
-can-judge-requires c κs = search rules
+can_judge_requires : tie.Need-can-judge-requires invariant_loop decreases_loop
+can_judge_requires c κs = search rules
 
-returns : tie.Need-returns invariant-loop decreases-loop
+returns : tie.Need-returns invariant_loop decreases_loop
 returns c = search rules
 
-loop-holds : tie.Need-loop-init invariant-loop decreases-loop
-loop-holds c = search rules
+loop_holds : tie.Need-loop-init invariant_loop decreases_loop
+loop_holds c = search rules
 
-above-requires : tie.Need-above-requires invariant-loop decreases-loop
-above-requires c κs = search rules
+above_requires : tie.Need-above-requires invariant_loop decreases_loop
+above_requires c κs = search rules
 
-sweep-stack-requires : tie.Need-sweep-stack-requires invariant-loop decreases-loop
-sweep-stack-requires c κs = search rules
+sweep_stack_requires : tie.Need-sweep-stack-requires invariant_loop decreases_loop
+sweep_stack_requires c κs = search rules
 
-add-stack : tie.Need-overflow-add-stack invariant-loop decreases-loop
-add-stack c = search rules
+add_stack : tie.Need-overflow-add-stack invariant_loop decreases_loop
+add_stack c = search rules
 
-loop-less : tie.Need-loop-smaller invariant-loop decreases-loop
-loop-less c = search rules
+loop_less : tie.Need-loop-smaller invariant_loop decreases_loop
+loop_less c = search rules
 
-loop-again : tie.Need-loop-preserved invariant-loop decreases-loop
-loop-again c = search rules
+loop_again : tie.Need-loop-preserved invariant_loop decreases_loop
+loop_again c = search rules
 
-returns-2 : tie.Need-returns-2 invariant-loop decreases-loop
-returns-2 c = search rules
+returns_2 : tie.Need-returns-2 invariant_loop decreases_loop
+returns_2 c = search rules
 
-pub sweep-spec : {M : Type 1} → statement M
-sweep-spec =
+pub sweep_spec : {M : Type 1} → statement M
+sweep_spec =
     tie.close
     (tie.spec
-    invariant-loop
-    decreases-loop
-    array-read-stack-base
-    stack-base-requires
-    array-read-v
-    can-judge-requires
+    invariant_loop
+    decreases_loop
+    array_read_stack_base
+    stack_base_requires
+    array_read_v
+    can_judge_requires
     returns
-    loop-holds
-    above-requires
-    sweep-stack-requires
-    add-stack
-    loop-less
-    loop-again
-    returns-2)
+    loop_holds
+    above_requires
+    sweep_stack_requires
+    add_stack
+    loop_less
+    loop_again
+    returns_2)
