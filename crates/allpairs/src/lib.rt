@@ -1,4 +1,6 @@
 // The table of pairs for every set of locations that bounds allow: with the short one's pairs first, and the same rule.
+#![tactic(auto)]
+
 mod table;
 
 ghost use Rattle.logic.specs.Book.{most};

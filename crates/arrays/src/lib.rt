@@ -1,4 +1,6 @@
 // An assignment's arrays as an array of arrays, indexed by array number and then by location.
+#![tactic(auto)]
+
 ghost use Rattle.std.specs.Prelude.{◌≡◌, ℕ, ◌+◌, ◌*◌, ◌≤◌, ltb, length, get_or};
 ghost use Rattle.logic.specs.Tests.{pick};
 ghost use Rattle.logic.specs.Book.{most};

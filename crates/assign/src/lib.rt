@@ -1,4 +1,6 @@
 // The judge of assignments: whether an assignment satisfies the table of a book, without a byte of the table being written.
+#![tactic(auto)]
+
 ghost use Rattle.logic.specs.Reflect.{Is};
 ghost use Rattle.logic.specs.Table.{tree};
 ghost use Rattle.logic.specs.Book.{root};

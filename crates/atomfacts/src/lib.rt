@@ -1,4 +1,6 @@
 // The facts of an atom at one location, from the locations of its variables.
+#![tactic(auto)]
+
 ghost use Rattle.std.specs.Prelude.{◌≡◌, true, suc, ◌^◌, ◌<◌, ◌≤◌};
 ghost use Rattle.logic.specs.Formula.Form.{same, diff, pts, ls};
 ghost use Rattle.logic.specs.Table.{atom_of};

@@ -1,5 +1,7 @@
 // Which blocks of a heap's digits hold no lowest fit, by the facts of the formula and the names of the stack. Not every fact is asked
 // at every level: a block that should have been passed over is looked into.
+#![tactic(auto)]
+
 ghost use Rattle.std.specs.Prelude.{◌≡◌, true, suc, ◌≤◌, ◌<◌};
 ghost use Rattle.logic.specs.Heap.{Heap};
 ghost use Rattle.cells.specs.Cells.{most, cells};

@@ -1,4 +1,6 @@
 // The reader of problem books: whether a book is as it should be, and its bounds. Any bytes at all are read.
+#![tactic(auto)]
+
 ghost use Rattle.logic.specs.Numbers.{answer};
 ghost use Rattle.logic.specs.Checks.{Answers};
 ghost use Rattle.logic.specs.CheckLaws.{Yes};
@@ -58,7 +60,7 @@ pub fn read(book: &[u8]) -> Answer
 }
 
 // A book that was opened: the reader's answer and, where it is accepted, its bounds.
-#[derive(Drop)]
+#[derive(Clone, Copy)]
 pub struct Opened {
     pub answer: Answer,
     pub v: u64,

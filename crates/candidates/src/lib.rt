@@ -1,5 +1,7 @@
 // The candidates: a stack and a heap whose digits are counted upward, and their bytes. Each is packed in one number, as the
 // judge takes it.
+#![tactic(auto)]
+
 ghost use Rattle.std.specs.Prelude.{◌≡◌, ◌++◌, ◌+◌, ◌*◌, ◌^◌, ◌<◌, ◌≤◌, length, drop};
 ghost use Rattle.cells.specs.Cells.{most, cells};
 ghost use Rattle.logic.specs.Candidates.{InBase, total as total_of, bytes_to, model_bytes};
@@ -9,7 +11,7 @@ ghost use Rattle.skips.specs.Blocks.{weight, after};
 use cells::{cell, placed};
 
 // The stack, by variable, and the heap, by location, with the bounds that they are in.
-#[derive(Drop)]
+#[derive(Clone, Copy)]
 pub struct Candidate {
     pub heap: u64,
     pub stack: u64,

@@ -1,5 +1,7 @@
 // Stacks, heaps and sets of locations, each in one number, so that a part of a heap is a mask away. specs/Cells.antt says
 // which numbers these are.
+#![tactic(auto)]
+
 ghost use Rattle.std.specs.Prelude.{◌≡◌, suc, ◌≤◌, ◌<◌, ◌^◌, leb};
 ghost use Rattle.std.specs.Int.Bits.{bit_and, bit_xor};
 ghost use Rattle.logic.specs.Heap.{Heap, Empty};

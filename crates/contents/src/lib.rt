@@ -1,4 +1,6 @@
 // The contents of a problem book: whether they are as stated, and the stretch of the caller's bytes that is an entry's body.
+#![tactic(auto)]
+
 ghost use Rattle.std.specs.Prelude.{◌≡◌, ◌+◌, ◌<◌};
 ghost use Rattle.logic.specs.Checks.{Answers};
 ghost use Rattle.logic.specs.CheckLaws.{Yes};
@@ -10,7 +12,7 @@ use logic::Answer;
 
 // Where a body stands in the book.
 #[repr(C)]
-#[derive(Drop)]
+#[derive(Clone, Copy)]
 pub struct Stretch {
     pub start: u64,
     pub length: u64,

@@ -1,4 +1,6 @@
 // The nodes of what has been read of a text, in order of completion. The table that holds them is lent.
+#![tactic(auto)]
+
 ghost use Rattle.std.specs.Prelude.{[], ◌∷◌, ◌+◌, ◌-◌, ◌<◌, ◌≤◌};
 ghost use Rattle.logic.specs.Book.{most_nodes};
 ghost use Rattle.grammar.specs.Grammar.{adds};

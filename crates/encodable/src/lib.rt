@@ -1,4 +1,6 @@
 // Which formulas can be encoded: none with operator 9 or 10 below operator 8 or in the b side of operator 7.
+#![tactic(auto)]
+
 ghost use Rattle.std.specs.Prelude.{◌<◌};
 ghost use Rattle.logic.specs.Reflect.{Is};
 ghost use Rattle.logic.specs.Table.{tree};

@@ -1,4 +1,6 @@
 // The encoder: the table of a book's formula, as a book of its own, written to the front of the output.
+#![tactic(auto)]
+
 ghost use Rattle.std.specs.Prelude.{◌≡◌, ◌+◌, ◌≤◌, ◌<◌, length};
 ghost use Rattle.logic.specs.Table.{tree};
 ghost use Rattle.logic.specs.Book.{most, root, KnownTable};

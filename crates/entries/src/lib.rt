@@ -1,4 +1,6 @@
 // The two entries of a book's contents: their numbers, and whether each is as it should be.
+#![tactic(auto)]
+
 ghost use Rattle.std.specs.Prelude.{◌≡◌, ◌+◌, ◌<◌, ◌≤◌, length};
 ghost use Rattle.logic.specs.Checks.{Answers, ◌then◌};
 ghost use Rattle.logic.specs.CheckLaws.{Yes};

@@ -1,6 +1,8 @@
 // The program: the examples of documents 01 and 02 and the worked examples of document 003, through the public calls, each
 // beside the second judge. It prints a line for each: its place in the document, the bounds v n p, the formula, what the
 // document states, whether the answer is that, and whether both judges agree on every candidate within the bounds.
+#![tactic(auto)]
+
 mod sweep; // both judges on every candidate
 mod report; // one example, one line
 mod scope; // documents 01 and 02

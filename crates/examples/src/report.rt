@@ -15,7 +15,7 @@ const BUDGET: u64 = 1000000;
 
 // Lines printed; those of them that are as stated, with both judges agreeing where both can judge; and those that the second
 // judge cannot judge.
-#[derive(Drop)]
+#[derive(Clone, Copy)]
 pub struct Tally {
     pub lines: u64,
     pub right: u64,

@@ -6,7 +6,7 @@ use second::World;
 
 // What a sweep has seen: how many candidates, on how many of them the judges agree, the number of the first that fits by the
 // second judge, plus 1 (0: none), with its stack and heap, and whether the model that is looked for fits by the second judge.
-#[derive(Drop)]
+#[derive(Clone, Copy)]
 pub struct Swept {
     pub all: u64,
     pub same: u64,

@@ -1,4 +1,6 @@
 // The boundary for C and Rust: each public call of the bench, with the full contract of the call it wraps. A slice arrives as a pointer and a length.
+#![tactic(auto)]
+
 ghost use Rattle.grammar.specs.Import.{Imports};
 ghost use Rattle.logic.specs.declared.Profile.TheVariants.{Strong, Ordinary};
 ghost use Rattle.logic.specs.Book.{Reads, Placed};

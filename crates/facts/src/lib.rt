@@ -1,5 +1,7 @@
 // The facts of a node at one location, for one stack: which digits a heap on which the node holds may have there, and two bounds
 // on how many cells point there. Here those of a connective, from its children's, and of a negation.
+#![tactic(auto)]
+
 ghost use Rattle.std.specs.Prelude.{◌≡◌, ◌⊎◌, ◌^◌, ◌<◌, ◌≤◌};
 ghost use Rattle.logic.specs.Formula.Form.{conj, disj, sep, sept};
 ghost use Rattle.logic.specs.Table.{join_of};
@@ -8,7 +10,7 @@ ghost use Rattle.skips.specs.Counts.{smaller as smaller_of, larger as larger_of}
 ghost use Rattle.facts.specs.Known.{Small, Kept, JoinedAs, AnyAs, Together};
 
 // Bit d of digits is set if digit d may stand; cap and need are the bounds of specs/Facts.antt in crate skips.
-#[derive(Drop)]
+#[derive(Clone, Copy)]
 pub struct Fact {
     pub digits: u64,
     pub cap: u64,

@@ -1,4 +1,6 @@
 // The head of a book that is written: its contents and its bounds.
+#![tactic(auto)]
+
 ghost use Rattle.std.specs.Prelude.{◌≡◌, ◌++◌, ◌≤◌, length, drop};
 ghost use Rattle.logic.specs.Book.{head_of};
 

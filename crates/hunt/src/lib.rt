@@ -1,4 +1,6 @@
 // The hunt for the lowest candidate that fits a node of a table, up to the end of the budget: the way through the range from 0.
+#![tactic(auto)]
+
 ghost use Rattle.std.specs.Prelude.{◌≡◌, suc, ◌≤◌, ◌<◌, leb};
 ghost use Rattle.logic.specs.Table.{Sound, tree};
 ghost use Rattle.logic.specs.Search.{CandidateFits, searched};
@@ -11,7 +13,7 @@ use logic::{Answer, Profile, Table};
 use sweep::{least, through};
 
 // What a hunt gives back: its answer, and the candidate that it stopped at.
-#[derive(Drop)]
+#[derive(Clone, Copy)]
 pub struct Ended {
     pub answer: Answer,
     pub at: Candidate,

@@ -1,4 +1,6 @@
 // The import of a text: the book of the formula that it means, at the front of the output.
+#![tactic(auto)]
+
 ghost use Rattle.std.specs.Prelude.{◌≡◌, ◌+◌, ◌*◌, ◌≤◌, length};
 ghost use Rattle.std.proofs.Math.Seq.{paste};
 ghost use Rattle.logic.specs.Book.{most, most_nodes};

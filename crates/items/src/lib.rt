@@ -1,4 +1,6 @@
 // The reader of items and lists: a list holds items and an item may be a list. The table of nodes and the letters of the names are lent.
+#![tactic(auto)]
+
 ghost use Rattle.std.specs.Prelude.{◌≡◌, ◌+◌, ◌<◌, ◌≤◌, length};
 ghost use Rattle.logic.specs.Reflect.{Is};
 ghost use Rattle.grammar.specs.Grammar.{Byte, deepest};
@@ -16,7 +18,7 @@ use words::{Next, Said, edge, emp, shut, skip, word};
 const DEEPEST: usize = 16;
 
 // Number 0: what was read ends before `at`, and there are so many nodes and names; else the refusal's number, and its place.
-#[derive(Drop)]
+#[derive(Clone, Copy)]
 pub struct Reached {
     pub number: u64,
     pub at: usize,

@@ -1,4 +1,6 @@
 // The judge's core: whether a node of a table holds on a heap. A heap is one number, and so is each of its parts.
+#![tactic(auto)]
+
 ghost use Rattle.std.specs.Prelude.{◌≡◌, true, suc, ◌-◌, ◌≤◌, ◌<◌, ◌^◌};
 ghost use Rattle.logic.specs.Heap.{Heap};
 ghost use Rattle.logic.specs.Table.{op_of, tree};

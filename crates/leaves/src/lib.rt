@@ -1,4 +1,6 @@
 // The smallest pieces, said once for every crate above: a number as a wider one, and the answer of a number and a place.
+#![tactic(auto)]
+
 ghost use Rattle.std.specs.Prelude.{◌≡◌, ◌<◌};
 ghost use Rattle.logic.specs.Numbers.{answer};
 

@@ -1,4 +1,6 @@
 // What a packed stack and a packed heap show of their blocks.
+#![tactic(auto)]
+
 ghost use Rattle.std.specs.Prelude.{◌≡◌, true, suc, ◌+◌, ◌*◌, ◌/◌, ◌^◌, ◌≤◌, ◌<◌, ltb};
 ghost use Rattle.skips.specs.Blocks.{most_outgoing};
 ghost use Rattle.cells.specs.Cells.{most, cells};

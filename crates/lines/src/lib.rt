@@ -1,5 +1,7 @@
 // The lines that the program prints for an answer: the answer's own, and the stack line and the heap line of a model that was
 // found. Each writer puts its bytes into the output from `at` on, and gives back the place after them.
+#![tactic(auto)]
+
 ghost use Rattle.std.specs.Prelude.{◌≡◌, ◌++◌, ◌+◌, ◌≤◌, length, drop};
 ghost use Rattle.logic.specs.Book.{most};
 ghost use Rattle.put.specs.Puts.{Puts, Room};

@@ -1,7 +1,8 @@
 // What every call gives back: a number, a place and a tried count. There is no code here; what a reader must believe is in specs/.
+#![tactic(auto)]
 
 #[repr(C)]
-#[derive(Drop)]
+#[derive(Clone, Copy)]
 pub struct Answer {
     pub number: u64,
     pub place: u64,
@@ -22,7 +23,7 @@ pub const TABLE: usize = 3 * NODES;
 pub type Table = [u8; TABLE];
 
 // "A profile, picked by the caller": what operators 9 and 10 ask of two heaps. See specs/Heap.antt.
-#[derive(Drop)]
+#[derive(Clone, Copy)]
 pub enum Profile {
     Strong,
     Ordinary,

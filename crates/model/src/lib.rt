@@ -1,4 +1,6 @@
 // The model judge: whether a model's bytes fit a book. Any two byte strings are judged.
+#![tactic(auto)]
+
 ghost use Rattle.logic.specs.Reflect.{Is};
 ghost use Rattle.logic.specs.Table.{tree};
 ghost use Rattle.logic.specs.Book.{root};

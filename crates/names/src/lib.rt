@@ -1,4 +1,6 @@
 // Names: how they are numbered as they first appear, and a term with its number.
+#![tactic(auto)]
+
 ghost use Rattle.std.specs.Prelude.{◌≡◌, ◌≤◌, length};
 ghost use Rattle.grammar.specs.Meaning.{position};
 ghost use Rattle.terms.specs.Letters.{letters_of};
@@ -12,14 +14,14 @@ use words::skip;
 pub type Letters = [u64; MOST];
 
 // A name's number, and how many names there are with it; number 0 where it is one name too many.
-#[derive(Drop)]
+#[derive(Clone, Copy)]
 pub struct Noted {
     pub variable: u8,
     pub names: usize,
 }
 
 // Number 0: a term ends before `at`, with its variable, and there are so many names; else the refusal's number, and its place.
-#[derive(Drop)]
+#[derive(Clone, Copy)]
 pub struct Taken {
     pub number: u64,
     pub at: usize,

@@ -6,6 +6,8 @@
 // E is nil = nil, N is !E, T is (E + N), as true is written in document 003, 7.3.1.
 //
 // Models and assignments: a digit for each byte, - for 255; anything else is skipped.
+#![tactic(auto)]
+
 use leaves::wide;
 use logic::{MODEL, TABLE, Table};
 
@@ -13,7 +15,7 @@ const NODES: usize = TABLE / 3;
 
 // A formula in the making: its nodes so far, the nodes that are no child yet, the operators that wait for their last child
 // (with the parentheses that hold them), and the atom that is being read (relation 0: its left side only).
-#[derive(Drop)]
+#[derive(Clone, Copy)]
 struct Draft {
     nodes: Table,
     count: u8,

@@ -1,4 +1,6 @@
 // The operands of a node: by the table of the operand kinds, whether each is as it should be.
+#![tactic(auto)]
+
 ghost use Rattle.std.specs.Prelude.{◌≡◌, ◌+◌, ◌*◌, ◌<◌, ◌≤◌, length};
 ghost use Rattle.logic.specs.Reflect.{Is};
 ghost use Rattle.logic.specs.Table.{op_of, kind_of, Operand, OperandOk, OperandsOk};

@@ -1,4 +1,6 @@
 // The own rows of each operator: an atom's, those of operator 7, and those of operators 9 and 10; and the last two rows.
+#![tactic(auto)]
+
 ghost use Rattle.std.specs.Prelude.{◌≡◌, [], ◌∷◌, ◌+◌, ◌-◌, ◌≤◌, ◌<◌};
 ghost use Rattle.logic.specs.declared.Profile.TheVariants.{Strong};
 ghost use Rattle.logic.specs.Table.{atom_of};

@@ -1,6 +1,8 @@
 // An operator's words in a text: what stands before its first operand, between its two and behind its last; variables, which
 // are an atom's operands; and how many bytes of a text are a node's own. Each writer puts its bytes into the output from `at`
 // on, and gives back the place after them.
+#![tactic(auto)]
+
 ghost use Rattle.std.specs.Prelude.{◌≡◌, ◌≤◌, length};
 ghost use Rattle.logic.specs.Book.{most};
 ghost use Rattle.put.specs.Puts.{Puts, Room};

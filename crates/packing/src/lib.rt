@@ -1,4 +1,6 @@
 // A model's bytes as one number, and a formula's table with room for the most nodes: what the judge's core takes.
+#![tactic(auto)]
+
 ghost use Rattle.std.specs.Prelude.{◌≡◌, ℕ, ◌+◌, ◌*◌, ◌≤◌, ◌<◌, length, get_or};
 ghost use Rattle.logic.specs.Book.{most_nodes};
 ghost use Rattle.logic.specs.Reflect.{Is};

@@ -1,5 +1,7 @@
 // The fixed tables of the trial of parts: where the stretch of each set begins, and then every pair of a set and a part of it,
 // by set and then by part. A pair is 256 * set + part. specs/PairLaws.antt proves a table's rule from one test of the whole table.
+#![tactic(auto)]
+
 mod table;
 
 ghost use Rattle.std.specs.Prelude.{◌≡◌, ℕ, ◌<◌, length};

@@ -1,4 +1,6 @@
 // The paths of a heap, which is one number: whether one of them is too long.
+#![tactic(auto)]
+
 ghost use Rattle.std.specs.Prelude.{◌≡◌, suc, ◌-◌, ◌<◌, ◌≤◌};
 ghost use Rattle.logic.specs.Heap.{Heap};
 ghost use Rattle.logic.specs.Paths.{NoLongPath};

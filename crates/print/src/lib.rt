@@ -1,4 +1,6 @@
 // What the program prints for a book, as bytes.
+#![tactic(auto)]
+
 ghost use Rattle.print.specs.Prints.{PutsPrinted};
 
 use book::open;

@@ -1,5 +1,7 @@
 // Bytes into the output, from a place on: a byte, a word, a number in decimal. Each writer puts its bytes from `at` on, leaves
 // every other byte as it was, and gives back the place after them; the caller shows that there is room.
+#![tactic(auto)]
+
 ghost use Rattle.std.specs.Prelude.{◌≡◌, [], ◌∷◌, ◌<◌};
 ghost use Rattle.put.specs.Puts.{Puts, Room};
 ghost use Rattle.put.specs.Decimal.{figure, decimal, numbered};

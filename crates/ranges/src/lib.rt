@@ -1,4 +1,6 @@
 // Whether bytes are a model over given bounds: their number, and each of them in range; and the model as the judge's core takes it.
+#![tactic(auto)]
+
 ghost use Rattle.std.specs.Prelude.{◌+◌, ◌≤◌};
 ghost use Rattle.logic.specs.Checks.{Answers, upto};
 ghost use Rattle.logic.specs.CheckLaws.{Yes};
@@ -12,7 +14,7 @@ use logic::Answer;
 use packing::{is_at_most, packed};
 
 // A model that was packed: whether its bytes are one, and where they have the right length its stack and its heap.
-#[derive(Drop)]
+#[derive(Clone, Copy)]
 pub struct Packed {
     pub answer: Answer,
     pub stack: u64,

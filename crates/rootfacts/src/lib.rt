@@ -1,4 +1,6 @@
 // The facts of a node of a table at one location, and of a formula at every location: an entry a location.
+#![tactic(auto)]
+
 ghost use Rattle.std.specs.Prelude.{◌≡◌, suc, ◌%◌, ◌/◌, ◌<◌, ◌≤◌, eqb};
 ghost use Rattle.logic.specs.Table.{op_of, tree};
 ghost use Rattle.logic.specs.Tests.{in_part};

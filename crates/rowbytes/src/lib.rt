@@ -1,4 +1,6 @@
 // One row and its bytes: the rows that stand alone, two rows and their AND, and a row with the AND of the result so far.
+#![tactic(auto)]
+
 ghost use Rattle.std.specs.Prelude.{◌≡◌, ◌++◌, [], ◌∷◌, ◌+◌, ◌-◌, ◌<◌};
 ghost use Rattle.rows.specs.Row.{plain as plain_of, ten_bytes, bytes_of};
 ghost use Rattle.rows.specs.Row.Row.{AND, OR, NOT};

@@ -1,4 +1,6 @@
 // The judge of rows: whether the last row of a formula's rows holds under an assignment, without a row being written.
+#![tactic(auto)]
+
 ghost use Rattle.std.specs.Prelude.{◌≡◌, [], ℕ, ◌+◌, ◌*◌, ◌^◌, ◌≤◌, ◌<◌, length, get_or};
 ghost use Rattle.logic.specs.Reflect.{Is};
 ghost use Rattle.logic.specs.Tests.{andb, orb, in_part};
@@ -21,7 +23,7 @@ use rows::Arrays;
 
 // The profile, the number of variables, of locations, of arrays and of sets, where the sets begin, the stack, packed, and the
 // locations at which two heaps may not meet.
-#[derive(Drop)]
+#[derive(Clone, Copy)]
 pub struct Setting {
     pub profile: Profile,
     pub v: u64,
@@ -34,7 +36,7 @@ pub struct Setting {
 }
 
 // Whether a formula's last row holds, and the next array and set.
-#[derive(Drop)]
+#[derive(Clone, Copy)]
 pub struct Told {
     pub holds: bool,
     pub array: usize,
@@ -42,7 +44,7 @@ pub struct Told {
 }
 
 // The same of two formulas.
-#[derive(Drop)]
+#[derive(Clone, Copy)]
 pub struct Pair {
     pub first: bool,
     pub second: bool,

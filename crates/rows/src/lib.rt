@@ -1,4 +1,5 @@
 // The table of rows that a formula is encoded as. There is no code here; what a reader must believe is in specs/.
+#![tactic(auto)]
 
 use logic::MOST;
 
@@ -10,7 +11,7 @@ pub type Values = [u8; MOST];
 pub type Arrays = [Values; ARRAYS];
 
 // A row as it is written: its operator, k and four operands.
-#[derive(Drop)]
+#[derive(Clone, Copy)]
 pub struct Fields {
     pub op: u8,
     pub k: u8,
@@ -21,7 +22,7 @@ pub struct Fields {
 }
 
 // The numbers that the next row, the next array and the next set get.
-#[derive(Drop)]
+#[derive(Clone, Copy)]
 pub struct Next {
     pub row: u16,
     pub array: u16,

@@ -1,4 +1,6 @@
 // The search of a book for the first model that fits, within a budget. Any bytes at all are searched.
+#![tactic(auto)]
+
 ghost use Rattle.std.specs.Prelude.{◌+◌, ◌≤◌};
 ghost use Rattle.logic.specs.Numbers.{output_length};
 ghost use Rattle.logic.specs.Checks.{Answers, check, done};

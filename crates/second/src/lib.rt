@@ -6,6 +6,8 @@
 // `wide`, the number of nodes and the length of a model are used. Stacks and heaps are numbers, a digit for each variable (base n + 1) or location
 // (base n + 2); two strongly disjoint heaps together have the sum of their numbers. Three variables and three locations at the
 // most.
+#![tactic(auto)]
+
 ghost use Rattle.std.specs.Prelude.{◌≤◌};
 
 use leaves::wide;
@@ -20,7 +22,7 @@ pub const ROOM: usize = HEAPS * NODES;
 pub type Sets = [u8; ROOM];
 
 // The bounds and the stack, as every node of the formula sees them.
-#[derive(Drop)]
+#[derive(Clone, Copy)]
 pub struct World {
     pub stack: u8,
     // n + 1 and n + 2
@@ -192,7 +194,7 @@ fn add(sets: &mut Sets, k: usize, h: usize) {
 }
 
 // A walk along a heap: where it stands, and the locations that it has left.
-#[derive(Drop)]
+#[derive(Clone, Copy)]
 struct Walk {
     at: u8,
     left: u8,
@@ -226,7 +228,7 @@ fn is_list(x: u8, y: u8, h: u8, w: World) -> bool {
 }
 
 // A path along a heap: where it ends, the locations on it, and whether it had a link to go on at every step.
-#[derive(Drop)]
+#[derive(Clone, Copy)]
 struct Path {
     at: u8,
     met: u8,

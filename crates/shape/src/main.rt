@@ -1,4 +1,5 @@
 // The program: reads a book from standard input, searches it, and prints the answer and the model that was found.
+#![tactic(auto)]
 
 fn main() {
     // One byte more than the longest book, so that a longer input is seen to be one.

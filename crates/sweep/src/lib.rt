@@ -1,5 +1,7 @@
 // The way through a range of candidates in their order, past the blocks that hold no lowest fit: from stack to stack, and in each
 // stack from heap to heap.
+#![tactic(auto)]
+
 ghost use Rattle.std.specs.Prelude.{◌≡◌, true, false, ◌⊎◌, suc, ◌+◌, ◌≤◌, ◌<◌};
 ghost use Rattle.logic.specs.Heap.{Heap};
 ghost use Rattle.logic.specs.Table.{Sound, tree};
@@ -25,7 +27,7 @@ use paths::is_short;
 use rootfacts::{Entries, cap_at, is_hopeless, root_facts};
 
 // What the way through a range gives back: whether a candidate fits, and it with its number if so.
-#[derive(Drop)]
+#[derive(Clone, Copy)]
 pub struct Stretch {
     pub found: bool,
     pub number: u64,

@@ -1,4 +1,6 @@
 // Terms: a name or `sep.nil`, and where it ends.
+#![tactic(auto)]
+
 ghost use Rattle.std.specs.Prelude.{◌≡◌, false, ℕ, ◌<◌, ◌≤◌, length, get_or};
 ghost use Rattle.grammar.specs.Phrase.{lower, letter};
 ghost use Rattle.grammar.specs.Grammar.{blank, Byte};
@@ -10,7 +12,7 @@ use leaves::long;
 use words::{Next, is_blank, spelled};
 
 // A term ends before the place, and its letters in base 256 (0 for sep.nil); or 26's place.
-#[derive(Drop)]
+#[derive(Clone, Copy)]
 pub enum Found {
     Term(usize, u64),
     Wrong(usize),

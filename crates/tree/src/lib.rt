@@ -1,5 +1,7 @@
 // The tree of a formula: whether every node but the root is the child of exactly one node, once. One walk over the nodes counts
 // each node's parents; a second step goes up the counts.
+#![tactic(auto)]
+
 ghost use Rattle.std.specs.Prelude.{◌<◌, ◌≤◌};
 ghost use Rattle.logic.specs.Checks.{Answers, upto};
 ghost use Rattle.logic.specs.CheckLaws.{Yes};

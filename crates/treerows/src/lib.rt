@@ -1,4 +1,6 @@
 // The rows of a formula's tree: a's tree, b's tree, own rows.
+#![tactic(auto)]
+
 ghost use Rattle.std.specs.Prelude.{◌≤◌, ◌<◌};
 ghost use Rattle.logic.specs.Table.{tree, join_of};
 ghost use Rattle.logic.specs.Book.{nodes, KnownTable};
@@ -12,7 +14,7 @@ use rowbytes::{put_and, put_not, put_or};
 use rows::Next;
 
 // The row after a's tree, and what comes after b's.
-#[derive(Drop)]
+#[derive(Clone, Copy)]
 pub struct Trees {
     pub first: u16,
     pub next: Next,

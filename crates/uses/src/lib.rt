@@ -1,4 +1,6 @@
 // How often each node of a formula is a child, by one walk over the nodes.
+#![tactic(auto)]
+
 ghost use Rattle.std.specs.Prelude.{◌≡◌, ℕ, ◌+◌, ◌*◌, ◌<◌, ◌≤◌, length, get_or};
 ghost use Rattle.logic.specs.Table.{NodeOk, Sound, uses};
 ghost use Rattle.logic.specs.Book.{most_nodes, nodes};

@@ -1,18 +1,20 @@
 // The smallest things of a text: blanks, edges, closing brackets and words.
+#![tactic(auto)]
+
 ghost use Rattle.std.specs.Prelude.{◌≡◌, [], true, ℕ, ◌+◌, ◌<◌, ◌≤◌, length, get_or, drop};
 ghost use Rattle.logic.specs.Reflect.{Is};
 ghost use Rattle.grammar.specs.Grammar.{blank, Edge};
 ghost use Rattle.words.specs.Words.{spellings, Begins, OverBlanks, Skipped, SpelledIs, ShutIs, WordIs, FreeItem, EmpIs};
 
 // What was asked for ends before the place; or 26's place.
-#[derive(Drop)]
+#[derive(Clone, Copy)]
 pub enum Next {
     At(usize),
     Bad(usize),
 }
 
 // The word of that number ends before the place; or 26's place.
-#[derive(Drop)]
+#[derive(Clone, Copy)]
 pub enum Said {
     Word(usize, usize),
     Nothing(usize),

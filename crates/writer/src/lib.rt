@@ -1,4 +1,6 @@
 // The export: the text of a book's formula, written to the front of the output.
+#![tactic(auto)]
+
 ghost use Rattle.std.specs.Prelude.{◌≡◌, ◌<◌, length};
 ghost use Rattle.logic.specs.Table.{tree};
 ghost use Rattle.logic.specs.Book.{nodes, root, KnownTable};
