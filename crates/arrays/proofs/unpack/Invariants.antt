@@ -1,0 +1,21 @@
+-- What the loops keep, and what falls.
+use borrow.Author.Rules.{rules}
+use mathlib.Core.Path.{◌≡◌, refl, ap}
+use mathlib.Core.List.{[]}
+use Prim.Native.Nat.{ℕ, ◌+◌, ◌-◌, ◌*◌, ◌<◌, ◌≤◌}
+use native.Mathlib.Nat.{zero-mul, add-zero}
+use native.Mathlib.Omega.{arith}
+use lib.ListN.{length, get_or, length-set, get_or-replicate, replicate}
+use borrow.Author.Count.{below_none}
+use Rattle.logic.specs.Book.{most}
+use Rattle.rows.specs.Assigned.{array_in}
+use Rattle.rows.specs.Bounds.{most_arrays}
+use Rattle.arrays.specs.Unpacked.{values_of, values_in}
+use Rattle.arrays.specs.UnpackLaws.{set_below, set_each, row_more, rows_fit, row_array}
+use Rattle.arrays.proofs.unpack.Given as goal
+
+abbrev pub invariant-loop-i : goal.invariant-loop-i
+invariant-loop-i l = (l.i ≤ l.arrays) × (l.at ≡ l.v + l.i * l.n) × (length l.a ≡ most_arrays) × ((k : ℕ) → k < l.i → values_in l.a k ≡ array_in l.v l.n l.arrays l.q k) × ((k : ℕ) → k < most_arrays → length (get_or l.a k []) ≡ most)
+
+abbrev pub decreases-loop-i : goal.decreases-loop-i
+decreases-loop-i l = l.arrays - l.i

@@ -1,0 +1,8 @@
+-- `assignment::top` meets its contract. Assumes nothing.
+use borrow.Author.Rules.{rules}
+use native.Mathlib.Omega.{arith}
+use Rattle.cells.specs.Packing.{bit_law}
+use Rattle.assignment.proofs.top.Goals as goal
+
+pub returns : goal.returns
+returns c = bit_law _ (omega (arith, c.requires))

@@ -1,0 +1,10 @@
+-- `atomfacts::points_fact` meets its contract. Assumes nothing.
+use Rattle.atomfacts.specs.AtomLaws.{points_nil, points_cell}
+use borrow.Author.Rules.{rules}
+use Rattle.atomfacts.proofs.points_fact.Goals as goal
+
+pub returns-then-a-eq0 : goal.returns-then-a-eq0
+returns-then-a-eq0 c = points_nil _ _ _ _ _ c.if-a-eq0.true c.nothing.ensures
+
+pub returns : goal.returns
+returns c = points_cell _ _ _ _ _ _ _ c.path_cap.ensures c.path_cap-2.ensures c.points_digits.ensures

@@ -1,0 +1,11 @@
+-- What the loops keep, and what falls.
+use borrow.Author.Rules.{rules}
+use Prim.Native.Nat.{◌≤◌}
+use native.Mathlib.Omega.{arith}
+use Rattle.blocks.proofs.level.Given as goal
+
+abbrev pub invariant-loop-j : goal.invariant-loop-j
+invariant-loop-j l = l.j ≤ l.n
+
+abbrev pub decreases-loop-j : goal.decreases-loop-j
+decreases-loop-j l = l.j

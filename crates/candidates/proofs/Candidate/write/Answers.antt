@@ -1,0 +1,9 @@
+-- `candidates::Candidate::write` meets its contract. Assumes nothing.
+use borrow.Author.Rules.{rules}
+use Rattle.candidates.specs.Written.{model_written}
+use Rattle.candidates.proofs.Candidate.write.Goals as goal
+
+pub returns : goal.returns
+returns c =
+    let a = c.args.self in
+    model_written a.vars a.locs a.stack a.heap c.args.out.now c.put.new.0 c.put-2.new.0 c.put.ensures c.put-2.ensures

@@ -1,0 +1,25 @@
+-- `candidates::weight_of` meets its contract. Assumes nothing.
+use borrow.Author.Rules.{rules}
+use mathlib.Core.Path.{◌∙◌, ap₂, sym, subst}
+use Prim.Native.Nat.{ℕ, ◌*◌, ◌≤◌}
+use native.Mathlib.Nat.{mul-le-mul}
+use native.Mathlib.Omega.{arith}
+use Rattle.skips.specs.BlockLaws.{weight_some}
+use Rattle.candidates.specs.CounterLaws.{total_fits}
+use Rattle.candidates.specs.PassLaws.{weight_below, weight_from}
+use Rattle.candidates.proofs.weight_of.Goals as goal
+
+pub returns-then-j-n : goal.returns-then-j-n
+returns-then-j-n c =
+    let a = c.args in
+    let e = c.power.ensures.0 ∙ weight_below a.n a.j c.if-j-n.true in
+    (e, omega (arith, e, weight_some a.n a.j), omega (arith, c.power.ensures.1))
+
+pub overflow_mul-result : goal.overflow_mul-result
+overflow_mul-result c = omega (arith, total_fits c.power-2.result c.power-3.result c.power-2.ensures.1 c.power-3.ensures.1)
+
+pub returns : goal.returns
+returns c =
+    let a = c.args in
+    let e = ap₂ (λ (x y : ℕ). x * y) c.power-2.ensures.0 c.power-3.ensures.0 ∙ weight_from a.n a.j c.if-j-n.false in
+    (e, subst (λ (x : ℕ). 1 ≤ x) (sym e) (weight_some a.n a.j), mul-le-mul c.power-2.ensures.1 c.power-3.ensures.1)

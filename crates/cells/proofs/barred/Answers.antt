@@ -1,0 +1,17 @@
+-- `cells::barred` meets its contract. Assumes nothing.
+use mathlib.Core.Path.{sym, subst}
+use borrow.Author.Rules.{rules}
+use Rattle.logic.specs.declared.Profile.{Profile}
+use Rattle.cells.specs.Cells.{cells, Barred}
+use Rattle.cells.specs.Unnamed.{barred_none}
+use Rattle.cells.proofs.barred.Goals as goal
+
+pub returns-in-Strong : goal.returns-in-Strong
+returns-in-Strong c =
+    let a = c.args in
+    subst (λ (π : Profile). Barred π a.v a.n (cells a.s) c.unnamed.result) (sym c.enum_told-1.given.1) c.unnamed.ensures
+
+pub returns-in-Ordinary : goal.returns-in-Ordinary
+returns-in-Ordinary c =
+    let a = c.args in
+    subst (λ (π : Profile). Barred π a.v a.n (cells a.s) 0) (sym c.enum_told-in-Ordinary-1.given.1) (barred_none a.v a.n (cells a.s))

@@ -1,0 +1,15 @@
+-- `cells::met` meets its contract. Assumes nothing.
+use Rattle.cells.specs.Sources.{met_nothing, met_law}
+use Rattle.cells.proofs.met.Goals as goal
+
+pub returns-then-u-eq0 : goal.returns-then-u-eq0
+returns-then-u-eq0 c = met_nothing _ _ c.if-u-eq0.true
+
+pub values-requires : goal.values-requires
+values-requires c = c.requires.1
+
+pub taken-requires : goal.taken-requires
+taken-requires c = c.requires.1
+
+pub returns : goal.returns
+returns c = met_law _ _ _ _ c.requires.0 c.values.ensures c.taken.ensures

@@ -1,0 +1,19 @@
+-- `encoder::write` meets its contract. Assumes nothing.
+use borrow.Author.Rules.{rules}
+use native.Mathlib.Omega.{arith}
+use Rattle.encoder.specs.EncodeLaws.{bytes_low, room_behind, book_written}
+use Rattle.encoder.proofs.write.Goals as goal
+
+pub overflow_mul-rows : goal.overflow_mul-rows
+overflow_mul-rows c = let a = c.args in omega (arith, bytes_low a.profile a.f.now a.n a.rows a.out.now c.requires)
+
+pub put_table-requires : goal.put_table-requires
+put_table-requires c =
+    let a = c.args in
+    let z = c.requires in
+    (z.known, z.locs, room_behind a.profile a.f.now a.n a.rows a.out.now z _ (omega arith))
+
+pub returns : goal.returns
+returns c =
+    let a = c.args in
+    book_written a.profile a.f.now a.n a.rows a.out.now c.requires a.v a.p _ _ c.put_head.ensures c.put_table.ensures

@@ -1,0 +1,9 @@
+-- `entries::is_kind` meets its contract. Assumes nothing.
+use borrow.Author.Rules.{rules}
+use Prim.Native.Nat.{◌+◌}
+use native.Mathlib.Omega.{arith}
+use Rattle.logic.specs.Reflect.{is_iff, is_eq}
+use Rattle.entries.proofs.is_kind.Goals as goal
+
+pub returns : goal.returns
+returns c = is_iff (is_eq c.wide.result (c.args.e + 1)) (λ q. omega (arith, q, c.wide.ensures.0)) (λ q. omega (arith, q, c.wide.ensures.0))

@@ -1,0 +1,61 @@
+-- What the loops keep, and what falls.
+use mathlib.Core.Path.{◌≡◌, refl, sym, subst, ◌∙◌, ap}
+use mathlib.Core.Bool.{not}
+use Prim.Native.Nat.{ℕ, zero-le, ◌+◌, ◌*◌, ◌-◌, ◌<◌, ◌≤◌}
+use native.Mathlib.Omega.{arith}
+use lib.ListN.{length}
+use borrow.Author.Rules.{rules}
+use borrow.Author.Tests.{not-true, not-false}
+use Rattle.logic.specs.Agree.{heap_more}
+use Rattle.logic.specs.Reflect.{fails}
+use Rattle.cells.specs.Cells.{cells, SourceBelow}
+use Rattle.pairs.specs.PairLaws.{inside_short}
+use Rattle.pairs.specs.Steps.{sub_le}
+use Rattle.judge.specs.Setting.{vars_of, locs_of, profile_of, stack_of, truth_at, first_at, second_at, serves_at, Tried, Walking}
+use Rattle.judge.specs.Joins.{operator_low, operator_high, lower_a, lower_b, ready_below, truth_5, truth_6, truth_7, truth_8, truth_9, truth_10, and_first, and_second}
+use Rattle.judge.specs.Trial.{chosen_any, taken_small, sub_within, trying_none, trying_found, part_is_heap, rest_is_heap, serves_not_apart, serves_both, sep_out}
+use Rattle.judge.specs.Walk.{walk_trying, walk_first, walk_next}
+use Rattle.judge.specs.Adding.{fill_first, whole_heap, fill_less, put_filled, fill_skip, fill_clash, put_found, fill_last, tried_none, tried_more, tried_found, tried_all, added_is}
+use Rattle.judge.proofs.+a_holds_added_b_holds_both_child_holds_digit_fill_join_serves_split.Given as goal
+
+abbrev pub decreases-a_holds : goal.decreases-a_holds
+decreases-a_holds l = 32 * l.k
+
+abbrev pub decreases-added : goal.decreases-added
+decreases-added l = 32 * l.k + 22
+
+abbrev pub decreases-b_holds : goal.decreases-b_holds
+decreases-b_holds l = 32 * l.k
+
+abbrev pub decreases-both : goal.decreases-both
+decreases-both l = 32 * l.k + 1
+
+abbrev pub decreases-child_holds : goal.decreases-child_holds
+decreases-child_holds l = 32 * l.k + 24
+
+abbrev pub decreases-digit : goal.decreases-digit
+decreases-digit l = 32 * l.k + 2 * l.l + 3
+
+abbrev pub decreases-fill : goal.decreases-fill
+decreases-fill l = 32 * l.k + 2 * l.l + 4
+
+abbrev pub decreases-join : goal.decreases-join
+decreases-join l = 32 * l.k + 23
+
+abbrev pub decreases-serves : goal.decreases-serves
+decreases-serves l = 32 * l.k + 2
+
+abbrev pub decreases-split : goal.decreases-split
+decreases-split l = 32 * l.k + 22
+
+abbrev pub invariant-loop-d : goal.invariant-loop-d
+invariant-loop-d l = (l.d ≤ l.top + 1) × (l.top ≡ locs_of l.b + 1) × Tried (profile_of l.b) (vars_of l.b) (locs_of l.b) (stack_of l.b) (first_at l.f l.b l.k) (second_at l.f l.b l.k) (cells l.w) l.l (cells l.g) l.d
+
+abbrev pub decreases-loop-d : goal.decreases-loop-d
+decreases-loop-d l = l.top + 1 - l.d
+
+abbrev pub invariant-loop-list : goal.invariant-loop-list
+invariant-loop-list l = Walking l.list (serves_at l.f l.b l.k l.w) l.a l.i
+
+abbrev pub decreases-loop-list : goal.decreases-loop-list
+decreases-loop-list l = length l.list - l.i

@@ -1,0 +1,11 @@
+-- What the loops keep, and what falls.
+use Prim.Native.Nat.{◌-◌}
+use native.Mathlib.Omega.{arith}
+use Rattle.levels.specs.LevelLaws.{Pointing, pointing_none, pointing_more, pointing_done}
+use Rattle.levels.proofs.pointing.Given as goal
+
+abbrev pub invariant-loop-i : goal.invariant-loop-i
+invariant-loop-i l = Pointing l.w l.j l.n l.l l.i l.r
+
+abbrev pub decreases-loop-i : goal.decreases-loop-i
+decreases-loop-i l = l.n - l.i

@@ -1,0 +1,13 @@
+-- What the loops keep, and what falls.
+use Prim.Native.Nat.{◌+◌, ◌-◌}
+use native.Mathlib.Omega.{arith}
+use Rattle.cells.specs.Cells.{most}
+use Rattle.cells.specs.Packing.{cells_lt}
+use Rattle.levels.specs.SwapLaws.{Swapping, swapping_none, swapping_more, swapping_done, exchanged_low}
+use Rattle.levels.proofs.swapped.Given as goal
+
+abbrev pub invariant-loop-i : goal.invariant-loop-i
+invariant-loop-i l = Swapping l.a l.w l.i l.r
+
+abbrev pub decreases-loop-i : goal.decreases-loop-i
+decreases-loop-i l = most - l.i

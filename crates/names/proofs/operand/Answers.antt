@@ -1,0 +1,44 @@
+-- `names::operand` meets its contract. Assumes nothing.
+use borrow.Author.Rules.{rules}
+use mathlib.Core.Path.{subst}
+use Prim.Native.Nat.{ℕ}
+use Rattle.terms.specs.declared.Found.TheVariants.{Term as Reads, Wrong}
+use Rattle.terms.specs.Terms.{TermIs}
+use Rattle.names.specs.Names.{names}
+use Rattle.names.specs.NameLaws.{operand_wrong, operand_nil, operand_over, operand_name}
+use Rattle.names.proofs.operand.Goals as goal
+
+pub term-found-requires : goal.term-found-requires
+term-found-requires c = (c.skip-from.ensures.inside, c.skip-from.ensures.next)
+
+pub returns-then-w-eq0 : goal.returns-then-w-eq0
+returns-then-w-eq0 c =
+    let a = c.args in
+    let k = c.skip-from in
+    let r = c.found-1.given in
+    let q : TermIs a.s.now a.last k.result (Reads r.0.0 r.0.1.0) = subst (TermIs a.s.now a.last k.result) r.1 c.term-found.ensures in
+    operand_nil a.s.now a.last a.at k.result (names a.letters.now a.names) k.ensures r.0.0 (subst (λ (w : ℕ). TermIs a.s.now a.last k.result (Reads r.0.0 w)) c.if-w-eq0.true q) c.requires.1
+
+pub returns-then-noted-eq0 : goal.returns-then-noted-eq0
+returns-then-noted-eq0 c =
+    let a = c.args in
+    let k = c.skip-from in
+    let r = c.found-1.given in
+    let q : TermIs a.s.now a.last k.result (Reads r.0.0 r.0.1.0) = subst (TermIs a.s.now a.last k.result) r.1 c.term-found.ensures in
+    operand_over a.s.now a.last a.at k.result (names a.letters.now a.names) k.ensures r.0.0 r.0.1.0 c.if-w-eq0.false q _ _ c.numbered-noted.ensures _ _ _ c.if-noted-eq0.true
+
+pub returns-else-noted-eq0 : goal.returns-else-noted-eq0
+returns-else-noted-eq0 c =
+    let a = c.args in
+    let k = c.skip-from in
+    let r = c.found-1.given in
+    let q : TermIs a.s.now a.last k.result (Reads r.0.0 r.0.1.0) = subst (TermIs a.s.now a.last k.result) r.1 c.term-found.ensures in
+    operand_name a.s.now a.last a.at k.result (names a.letters.now a.names) k.ensures r.0.0 r.0.1.0 c.if-w-eq0.false q _ _ c.numbered-noted.ensures _ c.if-noted-eq0.false
+
+pub returns-in-Wrong : goal.returns-in-Wrong
+returns-in-Wrong c =
+    let a = c.args in
+    let k = c.skip-from in
+    let r = c.found-in-Wrong-1.given in
+    let q : TermIs a.s.now a.last k.result (Wrong r.0.0) = subst (TermIs a.s.now a.last k.result) r.1 c.term-found.ensures in
+    operand_wrong a.s.now a.last a.at k.result (names a.letters.now a.names) k.ensures r.0.0 _ _ _ q

@@ -1,0 +1,20 @@
+-- `nodes::node` meets its contract. Assumes nothing.
+use borrow.Author.Rules.{rules}
+use mathlib.Core.Logic.{inl, inr, ⊎_elim}
+use native.Mathlib.Omega.{arith}
+use borrow.Author.Tests.{not-true, not-false}
+use Rattle.logic.specs.Checks.{Answers}
+use Rattle.logic.specs.Reflect.{fails}
+use Rattle.nodes.proofs.node.Goals as goal
+
+pub returns-then-not-operands : goal.returns-then-not-operands
+unfolding Answers
+returns-then-not-operands c = inr ((omega arith, omega arith), inl (fails _ c.operands.ensures (not-true _ c.if-not-operands.true), c.answer_of.ensures))
+
+pub returns-else-not-operands : goal.returns-else-not-operands
+unfolding Answers
+returns-else-not-operands c = inr ((omega arith, omega arith), inr (c.operands.ensures.to (not-false _ c.if-not-operands.false), c.answer_of-in-1-to-10.ensures))
+
+pub returns-in_default : goal.returns-in_default
+unfolding Answers
+returns-in_default c = inl (λ h. ⊎_elim (λ w. omega (arith, h.0, w)) (λ w. omega (arith, h.1, w.1)) c.in_default.branch, c.answer_of-in_default.ensures)

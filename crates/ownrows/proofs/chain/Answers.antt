@@ -1,0 +1,8 @@
+-- `ownrows::chain` meets its contract. Assumes nothing.
+use mathlib.Core.Path.{refl}
+use Rattle.rows.specs.Row.{fields_of}
+use Rattle.ownrows.proofs.chain.Goals as goal
+
+pub returns : goal.returns
+unfolding fields_of
+returns c = refl

@@ -1,0 +1,7 @@
+-- `ownrows::put_long` meets its contract. Assumes nothing.
+use borrow.Author.Rules.{rules}
+use Rattle.ownrows.specs.OwnRowLaws.{long_rows}
+use Rattle.ownrows.proofs.put_long.Goals as goal
+
+pub returns : goal.returns
+returns c = long_rows _ c.requires.0 c.long.ensures c.put_also.ensures

@@ -1,0 +1,12 @@
+-- What the loops keep, and what falls.
+use mathlib.Core.Path.{refl}
+use Prim.Native.Nat.{◌+◌, ◌-◌, ◌≤◌}
+use native.Mathlib.Omega.{arith}
+use Rattle.paths.specs.Along.{Walk, next_low, walk_start, walk_next, walk_end}
+use Rattle.paths.proofs.is_long_from.Given as goal
+
+abbrev pub invariant-loop-i : goal.invariant-loop-i
+invariant-loop-i l = Walk l.p l.w l.l l.i l.d l.m l.missed × (l.i ≤ l.p + 1)
+
+abbrev pub decreases-loop-i : goal.decreases-loop-i
+decreases-loop-i l = l.p + 1 - l.i

@@ -1,0 +1,33 @@
+-- `put::put_word` meets its contract. Assumes nothing.
+use mathlib.Core.Path.{◌≡◌, ap, ◌∙◌}
+use Prim.Native.Nat.{ℕ, ◌-◌, ◌≤◌}
+use native.Mathlib.Omega.{arith}
+use lib.ListN.{length, take}
+use lib.Seq.{take-length}
+use Rattle.put.specs.Puts.{Puts}
+use Rattle.put.specs.PutsLaws.{puts_none, puts_long, puts_puts, puts_as, room_behind, word_more, room_word}
+use Rattle.put.proofs.put_word.Goals as goal
+
+pub loop-i-init : goal.loop-i-init
+loop-i-init c =
+    (omega arith, puts_none c.args.at c.args.out.now (omega (arith, c.requires)))
+
+pub put-next-requires : goal.put-next-requires
+put-next-requires c =
+    let l = c.loop-i in
+    room_behind l.invariant.1 _ (room_word c.args.word.now l.i c.loop-i-test.true c.args.at c.args.out.now c.requires)
+
+pub loop-i-preserved : goal.loop-i-preserved
+loop-i-preserved c =
+    let l = c.loop-i in
+    (omega arith, puts_as (word_more c.args.word.now l.i c.loop-i-test.true) (puts_puts l.invariant.1 c.put-next.ensures))
+
+pub shape_of-out : goal.shape_of-out
+shape_of-out c = puts_long c.loop-i.invariant.1
+
+pub returns : goal.returns
+returns c =
+    let w = c.args.word.now in
+    let l = c.loop-i in
+    let end : l.i ≡ length w = omega arith in
+    puts_as (ap (λ (k : ℕ). take k w) end ∙ take-length w) l.invariant.1

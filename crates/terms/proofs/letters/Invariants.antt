@@ -1,0 +1,23 @@
+-- What the loops keep, and what falls.
+use borrow.Author.Rules.{rules}
+use mathlib.Core.Path.{◌≡◌, refl, sym, ap, ◌∙◌}
+use mathlib.Core.Bool.{true, false}
+use mathlib.Core.List.{List}
+use Prim.Native.Nat.{ℕ, ◌+◌, ◌*◌, ◌-◌, ◌≤◌, ◌<◌}
+use native.Mathlib.Omega.{arith}
+use lib.ListN.{length, get_or}
+use borrow.Author.Tests.{not-true, not-false}
+use Rattle.grammar.specs.Steps.{onward}
+use Rattle.grammar.specs.Phrase.{letter}
+use Rattle.grammar.specs.Machine.{Frame, Spot, name}
+use Rattle.terms.specs.Letters.{letters_of}
+use Rattle.terms.specs.TermLaws.{letter_byte, name_cut, name_ninth, name_unviable, name_longer, length_longer}
+use Rattle.terms.proofs.letters.Given as goal
+
+abbrev pub invariant-loop-e : goal.invariant-loop-e
+invariant-loop-e l =
+    (l.at ≤ l.e) × (l.e ≤ length l.s) × (0 < l.x) × (l.e + length (letters_of l.w) ≡ l.at + length (letters_of l.x))
+    × ((t : Spot) (σ : List Frame) → onward l.s (name (letters_of l.w) t σ) l.at ≡ onward l.s (name (letters_of l.x) t σ) l.e)
+
+abbrev pub decreases-loop-e : goal.decreases-loop-e
+decreases-loop-e l = length l.s - l.e

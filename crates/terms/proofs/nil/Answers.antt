@@ -1,0 +1,31 @@
+-- `terms::nil` meets its contract. Assumes nothing.
+use borrow.Author.Rules.{rules}
+use mathlib.Core.Path.{subst}
+use borrow.Author.Tests.{not-true, not-false}
+use Rattle.words.specs.Words.{SpelledIs}
+use Rattle.words.specs.declared.Next.TheVariants.{At, Bad}
+use Rattle.grammar.specs.Phrase.{bytes}
+use Rattle.terms.specs.Terms.{EndsIs}
+use Rattle.terms.specs.TermLaws.{nil_found, nil_open, nil_missed}
+use Rattle.terms.proofs.nil.Goals as goal
+
+pub returns-then-not-ends : goal.returns-then-not-ends
+returns-then-not-ends c =
+    let a = c.args in
+    let r = c.rest-1.given in
+    let k : SpelledIs a.s.now (bytes "nil") a.at (At r.0.0) = subst (SpelledIs a.s.now (bytes "nil") a.at) r.1 c.spelled-rest.ensures in
+    nil_open a.s.now a.last a.at r.0.0 k (subst (EndsIs a.s.now a.last r.0.0) (not-true c.ends.result c.if-not-ends.true) c.ends.ensures)
+
+pub returns-else-not-ends : goal.returns-else-not-ends
+returns-else-not-ends c =
+    let a = c.args in
+    let r = c.rest-1.given in
+    let k : SpelledIs a.s.now (bytes "nil") a.at (At r.0.0) = subst (SpelledIs a.s.now (bytes "nil") a.at) r.1 c.spelled-rest.ensures in
+    nil_found a.s.now a.last a.at r.0.0 k (subst (EndsIs a.s.now a.last r.0.0) (not-false c.ends.result c.if-not-ends.false) c.ends.ensures)
+
+pub returns-in-Bad : goal.returns-in-Bad
+returns-in-Bad c =
+    let a = c.args in
+    let r = c.rest-in-Bad-1.given in
+    let k : SpelledIs a.s.now (bytes "nil") a.at (Bad r.0.0) = subst (SpelledIs a.s.now (bytes "nil") a.at) r.1 c.spelled-rest.ensures in
+    nil_missed a.s.now a.last a.at r.0.0 k

@@ -1,0 +1,63 @@
+-- `terms::term` meets its contract. Assumes nothing.
+use borrow.Author.Rules.{rules}
+use mathlib.Core.Path.{◌≡◌, refl, sym, subst, ◌∙◌}
+use mathlib.Core.Bool.{true, false}
+use Prim.Native.Nat.{ℕ, ◌+◌, ◌<◌}
+use native.Mathlib.Omega.{arith}
+use lib.ListN.{length, get_or}
+use borrow.Author.Tests.{not-true, not-false}
+use Rattle.grammar.specs.Phrase.{lower}
+use Rattle.terms.specs.declared.Found.TheVariants.{Term as Reads, Wrong}
+use Rattle.terms.specs.Terms.{LettersIs}
+use Rattle.terms.specs.TermLaws.{is_lower_law, no_term, term_wrong, term_ended}
+use Rattle.terms.proofs.term.Goals as goal
+
+pub returns-then-s-at : goal.returns-then-s-at
+returns-then-s-at c = no_term c.args.s.now c.args.last c.args.at c.requires.0 (λ z q. absurd (omega (arith, q.0)))
+
+pub returns-then-not-is_lower : goal.returns-then-not-is_lower
+returns-then-not-is_lower c =
+    let a = c.args in
+    let f : c.is_lower.result ≡ false = not-true c.is_lower.result c.if-not-is_lower.true in
+    no_term a.s.now a.last a.at c.requires.0 (λ z q. (c.requires.1 z q, subst (λ (y : ℕ). lower y ≡ false) q.1 (sym c.is_lower.ensures ∙ f)))
+
+pub letters-begun-requires : goal.letters-begun-requires
+letters-begun-requires c =
+    let a = c.args in
+    let i : a.at < length a.s.now = c.if-s-at.false in
+    let low : c.is_lower.result ≡ true = not-false c.is_lower.result c.if-not-is_lower.false in
+    let e : lower (get_or a.s.now a.at 0) ≡ true = sym c.is_lower.ensures ∙ low in
+    (omega arith, omega (arith, c.long.ensures, ((is_lower_law (get_or a.s.now a.at 0)).to e).0))
+
+pub ended-requires : goal.ended-requires
+ended-requires c =
+    let a = c.args in
+    let i : a.at < length a.s.now = c.if-s-at.false in
+    let low : c.is_lower.result ≡ true = not-false c.is_lower.result c.if-not-is_lower.false in
+    let e : lower (get_or a.s.now a.at 0) ≡ true = sym c.is_lower.ensures ∙ low in
+    let r = c.begun-1.given in
+    let q : LettersIs a.s.now (get_or a.s.now a.at 0) (a.at + 1) (Reads r.0.0 r.0.1.0) =
+    subst (λ (w : ℕ). LettersIs a.s.now w (a.at + 1) (Reads r.0.0 r.0.1.0)) c.long.ensures (subst (LettersIs a.s.now c.long.result (a.at + 1)) r.1 c.letters-begun.ensures) in
+    (q.1, q.2, q.3)
+
+pub returns-in-Term : goal.returns-in-Term
+returns-in-Term c =
+    let a = c.args in
+    let i : a.at < length a.s.now = c.if-s-at.false in
+    let low : c.is_lower.result ≡ true = not-false c.is_lower.result c.if-not-is_lower.false in
+    let e : lower (get_or a.s.now a.at 0) ≡ true = sym c.is_lower.ensures ∙ low in
+    let r = c.begun-1.given in
+    let q : LettersIs a.s.now (get_or a.s.now a.at 0) (a.at + 1) (Reads r.0.0 r.0.1.0) =
+    subst (λ (w : ℕ). LettersIs a.s.now w (a.at + 1) (Reads r.0.0 r.0.1.0)) c.long.ensures (subst (LettersIs a.s.now c.long.result (a.at + 1)) r.1 c.letters-begun.ensures) in
+    term_ended a.s.now a.at i (c.requires.1 (get_or a.s.now a.at 0) (i, refl)) e a.last r.0.1.0 r.0.0 c.ended.result q c.ended.ensures
+
+pub returns-in-Wrong : goal.returns-in-Wrong
+returns-in-Wrong c =
+    let a = c.args in
+    let i : a.at < length a.s.now = c.if-s-at.false in
+    let low : c.is_lower.result ≡ true = not-false c.is_lower.result c.if-not-is_lower.false in
+    let e : lower (get_or a.s.now a.at 0) ≡ true = sym c.is_lower.ensures ∙ low in
+    let r = c.begun-in-Wrong-1.given in
+    let q : LettersIs a.s.now (get_or a.s.now a.at 0) (a.at + 1) (Wrong r.0.0) =
+    subst (λ (w : ℕ). LettersIs a.s.now w (a.at + 1) (Wrong r.0.0)) c.long.ensures (subst (LettersIs a.s.now c.long.result (a.at + 1)) r.1 c.letters-begun.ensures) in
+    term_wrong a.s.now a.at i (c.requires.1 (get_or a.s.now a.at 0) (i, refl)) e a.last r.0.0 q

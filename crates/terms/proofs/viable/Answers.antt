@@ -1,0 +1,13 @@
+-- `terms::viable` meets its contract. Assumes nothing.
+use borrow.Author.Rules.{rules}
+use mathlib.Core.Path.{ap, sym, ◌∙◌}
+use mathlib.Core.Bool.{not}
+use native.Mathlib.Omega.{arith}
+use Rattle.terms.specs.LetterLaws.{viable_short, viable_full}
+use Rattle.terms.proofs.viable.Goals as goal
+
+pub returns-then-w-lt-EIGHT_LETTERS : goal.returns-then-w-lt-EIGHT_LETTERS
+returns-then-w-lt-EIGHT_LETTERS c = viable_short c.args.w c.if-w-lt-EIGHT_LETTERS.true
+
+pub returns : goal.returns
+returns c = ap not c.FIXME_is_is_word.ensures ∙ sym (viable_full c.args.w (omega arith) (omega arith))

@@ -1,0 +1,37 @@
+-- `uses::count` meets its contract. Assumes nothing.
+use borrow.Author.Rules.{rules}
+use mathlib.Core.Path.{◌≡◌, refl, ◌∙◌, ap}
+use Prim.Native.Nat.{ℕ, ◌-◌, ◌<◌, ◌≤◌}
+use native.Mathlib.Omega.{arith}
+use lib.ListN.{length, get_or}
+use Rattle.logic.specs.Table.{uses}
+use Rattle.logic.specs.TableLaws.{uses_more}
+use Rattle.logic.specs.Book.{most_nodes, nodes}
+use Rattle.uses.specs.CountLaws.{uses_le, none_counted}
+use Rattle.uses.proofs.count.Goals as goal
+
+pub loop-j-init : goal.loop-j-init
+loop-j-init c = (search rules, refl, none_counted c.args.f.now most_nodes)
+
+uses_by_requires : tie.Need-uses-by-requires invariant_loop decreases_loop
+
+uses_by_requires c κs =
+    let a = c.before.before.before.before.args in
+    let p = c.before.before.before.before.requires in
+    let l = c.before.before.loop in
+    let below : l.j < nodes a.f.now = c.before.loop-test.true in
+    (omega arith, p.1 l.j below, omega (arith, p.0), omega (arith, l.invariant.1), λ k. omega (arith, l.invariant.2 k, uses_le a.f.now l.j k))
+
+pub loop-j-preserved : goal.loop-j-preserved
+loop-j-preserved c =
+    let a = c.args in
+    let l = c.loop-j in
+    let q = c.uses_by in
+    (search rules, omega (arith, q.auto.1.1.1.0, l.invariant.1), λ k. omega (arith, q.ensures k, l.invariant.2 k, uses_more a.f.now k l.j))
+
+pub returns : goal.returns
+returns c =
+    let a = c.args in
+    let l = c.loop-j in
+    let end : l.j ≡ nodes a.f.now = omega arith in
+    λ k. l.invariant.2 k ∙ ap (λ (j : ℕ). uses a.f.now j k) end

@@ -1,0 +1,7 @@
+-- `words::emp` meets its contract. Assumes nothing.
+use borrow.Author.Rules.{rules}
+use Rattle.words.specs.WordLaws.{emp_is}
+use Rattle.words.proofs.emp.Goals as goal
+
+pub returns : goal.returns
+returns c = emp_is c.args.s.now c.args.at c.requires.1 c.requires.0 c.spelled.result c.spelled.ensures

@@ -1,0 +1,15 @@
+-- What the loops keep, and what falls.
+use borrow.Author.Rules.{rules}
+use mathlib.Core.Path.{◌≡◌, subst}
+use Prim.Native.Nat.{ℕ, ◌+◌, ◌-◌, ◌≤◌}
+use native.Mathlib.Omega.{arith}
+use Rattle.grammar.specs.Grammar.{Blanks}
+use Rattle.words.specs.Words.{OverBlanks}
+use Rattle.words.specs.WordLaws.{blank_first}
+use Rattle.words.proofs.inks.Given as goal
+
+abbrev pub invariant-loop-k : goal.invariant-loop-k
+invariant-loop-k l = (l.k ≤ 128) × (l.n ≤ l.k) × (l.n ≡ 0 → OverBlanks l.s l.at (l.at + l.k))
+
+abbrev pub decreases-loop-k : goal.decreases-loop-k
+decreases-loop-k l = 128 - l.k
