@@ -23,10 +23,10 @@ and_of : (x q r a : ℕ) → x ≡ q * 2 + r → r < 2 → bit_and x a ≡ bit_a
 and_of x q r a e l = rw e (and_step (q * 2 + r) a ∙ rw (digits_div q l, digits_mod q l))
 
 min_0 : (a : ℕ) → min 0 a ≡ 0
-min_0 a = native.Mathlib.Nat.zero_min a
+min_0 a = native.Mathlib.Nat.zero-min a
 
 min_r : (r a : ℕ) → r ≤ a → min r a ≡ r
-min_r r a l = native.Mathlib.Nat.min_eq_left l
+min_r r a l = native.Mathlib.Nat.min-eq_left l
 
 record Halves (k s a c : ℕ) : Type 0 where
   es : s / 2 * 2 + s % 2 ≡ s

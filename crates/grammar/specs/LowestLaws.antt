@@ -26,18 +26,21 @@ pub data Excess (ns : List (List ℕ)) (k : ℕ) (es : List Event) : ℕ → ℕ
 
 passes_low : (lo k : ℕ) (es : List Event) (q : ℕ) → Sorted lo es → PassesAt k es q → lo ≤ q
 unfolding Sorted
+passes_low lo k [] q h x = elim x [ ]
 passes_low lo k (finished p m ∷ es) q h (passing a b) = h.0
 passes_low lo k (finished p m ∷ es) q h (past_item r) = omega (arith, h.0, passes_low (suc p) (k + m) es q h.1 r)
 passes_low lo k (named x i j ∷ es) q h (past_name r) = omega (arith, h.0, h.1, passes_low j k es q h.2 r)
 
 pub over_low : (w lo : ℕ) (ns : List (List ℕ)) (es : List Event) (q : ℕ) → Sorted lo es → NameOverAt w ns es q → lo ≤ q
 unfolding Sorted
+over_low w lo ns [] q h x = elim x [ ]
 over_low w lo ns (named x i j ∷ es) q h (one_over a b) = h.0
 over_low w lo ns (named x i j ∷ es) q h (after_name r) = omega (arith, h.0, h.1, over_low w j (note ns x) es q h.2 r)
 over_low w lo ns (finished p m ∷ es) q h (after_item r) = omega (arith, h.0, over_low w (suc p) ns es q h.1 r)
 
 -- once 64 are passed they are not passed again
 no_more_passes : (k : ℕ) (es : List Event) (q : ℕ) → most_nodes < k → ¬ PassesAt k es q
+no_more_passes k [] q l x = elim x [ ]
 no_more_passes k (finished p m ∷ es) q l (passing a b) = omega arith
 no_more_passes k (finished p m ∷ es) q l (past_item r) = no_more_passes (k + m) es q (omega arith) r
 no_more_passes k (named x i j ∷ es) q l (past_name r) = no_more_passes k es q l r
@@ -50,6 +53,7 @@ note_long ns x = go (known ns x)
     go false = omega (arith, length-append ns (x ∷ []))
 
 no_more_over : (ns : List (List ℕ)) (es : List Event) (q : ℕ) → most < length ns → ¬ NameOverAt most ns es q
+no_more_over ns [] q l x = elim x [ ]
 no_more_over ns (named x i j ∷ es) q l (one_over a b) = omega arith
 no_more_over ns (named x i j ∷ es) q l (after_name r) = no_more_over (note ns x) es q (omega (arith, note_long ns x)) r
 no_more_over ns (finished p m ∷ es) q l (after_item r) = no_more_over ns es q l r
@@ -108,9 +112,11 @@ name_over ns k x i j es a b l h = names_first i (one_over a b) low (λ q s. omeg
     low r (after_name s) = absurd (no_more_over (note ns x) es r long s)
 
 passes_some : (k : ℕ) (es : List Event) (q : ℕ) → PassesAt k es q → 1 ≤ length es
+passes_some k [] q h = elim h [ ]
 passes_some k (e ∷ es) q h = omega arith
 
 over_some : (ns : List (List ℕ)) (es : List Event) (i : ℕ) → NameOverAt most ns es i → 1 ≤ length es
+over_some ns [] i h = elim h [ ]
 over_some ns (e ∷ es) i h = omega arith
 
 nothing_passes : (k q : ℕ) → ¬ PassesAt k [] q

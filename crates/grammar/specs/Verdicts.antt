@@ -25,12 +25,14 @@ use Rattle.grammar.specs.LowestLaws.{Clean, Excess, sift, nodes_first, names_fir
 -- an event that passes a limit is one of the events
 passes_in : (P : ℕ → Type 0) (k : ℕ) (es : List Event) (q : ℕ) → Each P es → PassesAt k es q → P q
 unfolding Each
+passes_in P k [] q h x = elim x [ ]
 passes_in P k (finished p m ∷ es) q h (passing a b) = h.0
 passes_in P k (finished p m ∷ es) q h (past_item r) = passes_in P (k + m) es q h.1 r
 passes_in P k (named x i j ∷ es) q h (past_name r) = passes_in P k es q h.1 r
 
 over_in : (K lo : ℕ) (ns : List (List ℕ)) (es : List Event) (q : ℕ) → Each (λ j. j < K) es → Sorted lo es → NameOverAt most ns es q → q < K
 unfolding Each Sorted
+over_in K lo ns [] q h s x = elim x [ ]
 over_in K lo ns (named x i j ∷ es) q h s (one_over a b) = omega (arith, h.0, s.1)
 over_in K lo ns (named x i j ∷ es) q h s (after_name r) = over_in K j (note ns x) es q h.1 s.2 r
 over_in K lo ns (finished p m ∷ es) q h s (after_item r) = over_in K (suc p) ns es q h.1 s.1 r

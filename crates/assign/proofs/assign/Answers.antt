@@ -45,7 +45,7 @@ returns-then-not-encodable c =
     let o = c.«open» in
     let f = c.part-f.result.now in
     let w = opened a.book.now f o.result.answer o.result.v o.result.n o.result.p o.ensures c.if-first-ne-YES.false c.part-f.ensures in
-    assigns_19 a.profile a.book.now f a.assignment.now o.result.v o.result.n o.result.p w _ _ c.encodable.ensures (not-true _ c.if-not-encodable.true) c.answer_of.ensures
+    assigns_19 a.profile a.book.now f a.assignment.now o.result.v o.result.n o.result.p w _ _ c.encodable.ensures c.if-not-encodable.true c.answer_of.ensures
 
 pub in_range-second-requires : goal.in_range-second-requires
 in_range-second-requires c =
@@ -68,7 +68,7 @@ returns-then-second-ne-YES c =
     let k = known a.book.now f o.result.v o.result.n o.result.p w in
     let ex = arrays_are o.result.v f k c.above-arrays.result c.above-arrays.ensures.0 in
     let ey = sets_are o.result.v f k c.above.result c.above.ensures.0 in
-    assigns_range a.profile a.book.now f a.assignment.now o.result.v o.result.n o.result.p w _ c.encodable.ensures (not-false _ c.if-not-encodable.false) _ _ ex ey c.in_range-second.result c.in_range-second.ensures c.if-second-ne-YES.true
+    assigns_range a.profile a.book.now f a.assignment.now o.result.v o.result.n o.result.p w _ c.encodable.ensures c.if-not-encodable.false _ _ ex ey c.in_range-second.result c.in_range-second.ensures c.if-second-ne-YES.true
 
 pub satisfies-requires : goal.satisfies-requires
 satisfies-requires c =
@@ -79,7 +79,7 @@ satisfies-requires c =
     let k = known a.book.now f o.result.v o.result.n o.result.p w in
     let ex = arrays_are o.result.v f k c.above-arrays.result c.above-arrays.ensures.0 in
     let ey = sets_are o.result.v f k c.above.result c.above.ensures.0 in
-    judging a.profile a.book.now f a.assignment.now o.result.v o.result.n o.result.p w _ c.encodable.ensures (not-false _ c.if-not-encodable.false) _ _ ex ey c.in_range-second.result c.in_range-second.ensures c.if-second-ne-YES.false
+    judging a.profile a.book.now f a.assignment.now o.result.v o.result.n o.result.p w _ c.encodable.ensures c.if-not-encodable.false _ _ ex ey c.in_range-second.result c.in_range-second.ensures c.if-second-ne-YES.false
 
 pub returns-then-satisfies : goal.returns-then-satisfies
 returns-then-satisfies c =
@@ -90,7 +90,7 @@ returns-then-satisfies c =
     let k = known a.book.now f o.result.v o.result.n o.result.p w in
     let ex = arrays_are o.result.v f k c.above-arrays.result c.above-arrays.ensures.0 in
     let ey = sets_are o.result.v f k c.above.result c.above.ensures.0 in
-    assigns_verdict a.profile a.book.now f a.assignment.now o.result.v o.result.n o.result.p w _ c.encodable.ensures (not-false _ c.if-not-encodable.false) _ _ ex ey c.in_range-second.result c.in_range-second.ensures c.if-second-ne-YES.false c.answer_of-then-satisfies.result
+    assigns_verdict a.profile a.book.now f a.assignment.now o.result.v o.result.n o.result.p w _ c.encodable.ensures c.if-not-encodable.false _ _ ex ey c.in_range-second.result c.in_range-second.ensures c.if-second-ne-YES.false c.answer_of-then-satisfies.result
     (inl (c.satisfies.ensures.to c.if-satisfies.true, c.answer_of-then-satisfies.ensures))
 
 pub returns-else-satisfies : goal.returns-else-satisfies
@@ -102,5 +102,5 @@ returns-else-satisfies c =
     let k = known a.book.now f o.result.v o.result.n o.result.p w in
     let ex = arrays_are o.result.v f k c.above-arrays.result c.above-arrays.ensures.0 in
     let ey = sets_are o.result.v f k c.above.result c.above.ensures.0 in
-    assigns_verdict a.profile a.book.now f a.assignment.now o.result.v o.result.n o.result.p w _ c.encodable.ensures (not-false _ c.if-not-encodable.false) _ _ ex ey c.in_range-second.result c.in_range-second.ensures c.if-second-ne-YES.false c.answer_of-else-satisfies.result
+    assigns_verdict a.profile a.book.now f a.assignment.now o.result.v o.result.n o.result.p w _ c.encodable.ensures c.if-not-encodable.false _ _ ex ey c.in_range-second.result c.in_range-second.ensures c.if-second-ne-YES.false c.answer_of-else-satisfies.result
     (inr (fails _ c.satisfies.ensures c.if-satisfies.false, c.answer_of-else-satisfies.ensures))

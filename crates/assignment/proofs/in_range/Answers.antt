@@ -49,7 +49,7 @@ returns-then-not-is_value c =
     inr (
       c.if-q-base.false,
       upto_refused (value_checks a.v a.n a.arrays a.q.now) (a.v + a.arrays * a.n + a.sets) l.i c.answer_of-then-not-is_value.result (omega (arith, c.loop-i-test.true, l.invariant.1)) l.invariant.3
-          (inl (fails _ t (not-true _ c.if-not-is_value.true), c.answer_of-then-not-is_value.ensures)) refused,
+          (inl (fails _ t c.if-not-is_value.true, c.answer_of-then-not-is_value.ensures)) refused,
     )
 
 pub overflow_add-i : goal.overflow_add-i
@@ -61,7 +61,7 @@ loop-i-preserved c =
     let a = c.args in
     let l = c.loop-i in
     let t = value_test a.v a.n a.arrays a.q.now _ _ l.i _ l.invariant.1 l.invariant.2 c.is_value.ensures in
-    (omega arith, l.invariant.1, l.invariant.2, rw add-one (passes_more (value_checks a.v a.n a.arrays a.q.now) l.i l.invariant.3 (t.to (not-false _ c.if-not-is_value.false), tt)))
+    (omega arith, l.invariant.1, l.invariant.2, rw add-one (passes_more (value_checks a.v a.n a.arrays a.q.now) l.i l.invariant.3 (t.to c.if-not-is_value.false, tt)))
 
 pub returns : goal.returns
 unfolding Answers

@@ -9,9 +9,9 @@ use Rattle.cells.proofs.barred.Goals as goal
 pub returns-in-Strong : goal.returns-in-Strong
 returns-in-Strong c =
     let a = c.args in
-    subst (λ (π : Profile). Barred π a.v a.n (cells a.s) c.unnamed.result) (sym c.enum_told-1.given.1) c.unnamed.ensures
+    subst (λ (π : Profile). Barred π a.v a.n (cells a.s) c.unnamed.result) (sym c.in-Strong.is) c.unnamed.ensures
 
 pub returns-in-Ordinary : goal.returns-in-Ordinary
 returns-in-Ordinary c =
     let a = c.args in
-    subst (λ (π : Profile). Barred π a.v a.n (cells a.s) 0) (sym c.enum_told-in-Ordinary-1.given.1) (barred_none a.v a.n (cells a.s))
+    subst (λ (π : Profile). Barred π a.v a.n (cells a.s) 0) (sym c.in-Ordinary.is) (barred_none a.v a.n (cells a.s))

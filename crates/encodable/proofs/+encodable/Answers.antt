@@ -11,7 +11,7 @@ encodable-requires t c =
     let z = c.requires in
     let a = c.args in
     let h = lower z.1.0 a.f.now z.1.1 a.k _ _ z.0 c.wide-x.ensures.0 c.wide-y.ensures.0 (omega arith) in
-    (omega (arith, c.requires.0, h.0), (omega (arith, h.0, z.0), z.1))
+    (omega (arith, c.decreases, h.0), (omega (arith, h.0, z.0), z.1))
 
 pub flat-requires : goal.flat-requires
 flat-requires t c =
@@ -30,20 +30,20 @@ encodable-requires-in-5-to-6 t c =
     let z = c.requires in
     let a = c.args in
     let h = lower z.1.0 a.f.now z.1.1 a.k _ _ z.0 c.wide-x.ensures.0 c.wide-y.ensures.0 (omega arith) in
-    (omega (arith, c.requires.0, h.0), (omega (arith, h.0, z.0), z.1))
+    (omega (arith, c.decreases, h.0), (omega (arith, h.0, z.0), z.1))
 
 pub encodable-requires-then-encodable-2 : goal.encodable-requires-then-encodable-2
 encodable-requires-then-encodable-2 t c =
     let z = c.requires in
     let a = c.args in
     let h = lower z.1.0 a.f.now z.1.1 a.k _ _ z.0 c.wide-x.ensures.0 c.wide-y.ensures.0 (omega arith) in
-    (omega (arith, c.requires.0, h.1), (omega (arith, h.1, z.0), z.1))
+    (omega (arith, c.decreases, h.1), (omega (arith, h.1, z.0), z.1))
 
 pub returns-then-encodable : goal.returns-then-encodable
 returns-then-encodable t c =
     let z = c.requires in
     let a = c.args in
-    encodable_guarded z.1.0 a.f.now z.1.1 a.k _ _ z.0 c.wide-x.ensures.0 c.wide-y.ensures.0 (omega arith) _ _ c.in-7.keys1 c.encodable.ensures c.if-encodable.true c.flat.ensures
+    encodable_guarded z.1.0 a.f.now z.1.1 a.k _ _ z.0 c.wide-x.ensures.0 c.wide-y.ensures.0 (omega arith) _ _ c.in-7.is c.encodable.ensures c.if-encodable.true c.flat.ensures
 
 pub returns-else-encodable : goal.returns-else-encodable
 returns-else-encodable t c =
@@ -55,7 +55,7 @@ pub returns-in-8 : goal.returns-in-8
 returns-in-8 t c =
     let z = c.requires in
     let a = c.args in
-    encodable_under z.1.0 a.f.now z.1.1 a.k _ _ z.0 c.wide-x.ensures.0 c.wide-y.ensures.0 (omega arith) _ c.in-8.keys2 c.flat-in-8.ensures
+    encodable_under z.1.0 a.f.now z.1.1 a.k _ _ z.0 c.wide-x.ensures.0 c.wide-y.ensures.0 (omega arith) _ c.in-8.is c.flat-in-8.ensures
 
 pub returns-in-1-to-4 : goal.returns-in-1-to-4
 returns-in-1-to-4 t c =

@@ -11,27 +11,27 @@ flat-requires t c =
     let z = c.requires in
     let a = c.args in
     let h = lower z.1.0 a.f.now z.1.1 a.k _ _ z.0 c.wide-x.ensures.0 c.wide-y.ensures.0 (omega arith) in
-    (omega (arith, c.requires.0, h.0), (omega (arith, h.0, z.0), z.1))
+    (omega (arith, c.decreases, h.0), (omega (arith, h.0, z.0), z.1))
 
 pub flat-requires-in-5-to-7 : goal.flat-requires-in-5-to-7
 flat-requires-in-5-to-7 t c =
     let z = c.requires in
     let a = c.args in
     let h = lower z.1.0 a.f.now z.1.1 a.k _ _ z.0 c.wide-x.ensures.0 c.wide-y.ensures.0 (omega arith) in
-    (omega (arith, c.requires.0, h.0), (omega (arith, h.0, z.0), z.1))
+    (omega (arith, c.decreases, h.0), (omega (arith, h.0, z.0), z.1))
 
 pub flat-requires-then-flat : goal.flat-requires-then-flat
 flat-requires-then-flat t c =
     let z = c.requires in
     let a = c.args in
     let h = lower z.1.0 a.f.now z.1.1 a.k _ _ z.0 c.wide-x.ensures.0 c.wide-y.ensures.0 (omega arith) in
-    (omega (arith, c.requires.0, h.1), (omega (arith, h.1, z.0), z.1))
+    (omega (arith, c.decreases, h.1), (omega (arith, h.1, z.0), z.1))
 
 pub returns-in-8 : goal.returns-in-8
 returns-in-8 t c =
     let z = c.requires in
     let a = c.args in
-    flat_under z.1.0 a.f.now z.1.1 a.k _ _ z.0 c.wide-x.ensures.0 c.wide-y.ensures.0 (omega arith) _ c.in-8.keys1 c.flat.ensures
+    flat_under z.1.0 a.f.now z.1.1 a.k _ _ z.0 c.wide-x.ensures.0 c.wide-y.ensures.0 (omega arith) _ c.in-8.is c.flat.ensures
 
 pub returns-in-1-to-4 : goal.returns-in-1-to-4
 returns-in-1-to-4 t c =

@@ -40,7 +40,7 @@ returns-then-not-encodable c =
     let o = c.«open» in
     let f = c.part-f.result.now in
     let q = opened a.book.now f o.result.answer o.result.v o.result.n o.result.p o.ensures c.if-first-ne-YES.false c.part-f.ensures in
-    not_encodable a.profile a.book.now a.out.now f o.result.v o.result.n o.result.p q _ _ c.encodable.ensures (not-true _ c.if-not-encodable.true) c.answer_of.ensures
+    not_encodable a.profile a.book.now a.out.now f o.result.v o.result.n o.result.p q _ _ c.encodable.ensures c.if-not-encodable.true c.answer_of.ensures
 
 pub overflow_cast-n : goal.overflow_cast-n
 overflow_cast-n c =
@@ -64,7 +64,7 @@ returns-then-out-index c =
     let o = c.«open» in
     let f = c.part-f.result.now in
     let q = opened a.book.now f o.result.answer o.result.v o.result.n o.result.p o.ensures c.if-first-ne-YES.false c.part-f.ensures in
-    too_short a.profile a.book.now a.out.now f o.result.v o.result.n o.result.p q _ c.encodable.ensures (not-false _ c.if-not-encodable.false) c.row_count-rows.result c.row_count-rows.ensures _ (omega (arith, c.if-out-index.true, c.index.ensures)) c.answer_of-then-out-index.ensures
+    too_short a.profile a.book.now a.out.now f o.result.v o.result.n o.result.p q _ c.encodable.ensures c.if-not-encodable.false c.row_count-rows.result c.row_count-rows.ensures _ (omega (arith, c.if-out-index.true, c.index.ensures)) c.answer_of-then-out-index.ensures
 
 pub overflow_cast-opened : goal.overflow_cast-opened
 overflow_cast-opened c =
@@ -88,7 +88,7 @@ write-requires c =
     let o = c.«open» in
     let f = c.part-f.result.now in
     let q = opened a.book.now f o.result.answer o.result.v o.result.n o.result.p o.ensures c.if-first-ne-YES.false c.part-f.ensures in
-    writable a.profile a.book.now a.out.now f o.result.v o.result.n o.result.p q _ c.encodable.ensures (not-false _ c.if-not-encodable.false) c.row_count-rows.result c.row_count-rows.ensures (omega (arith, c.if-out-index.false, c.index.ensures))
+    writable a.profile a.book.now a.out.now f o.result.v o.result.n o.result.p q _ c.encodable.ensures c.if-not-encodable.false c.row_count-rows.result c.row_count-rows.ensures (omega (arith, c.if-out-index.false, c.index.ensures))
 
 pub returns : goal.returns
 returns c =
@@ -96,4 +96,4 @@ returns c =
     let o = c.«open» in
     let f = c.part-f.result.now in
     let q = opened a.book.now f o.result.answer o.result.v o.result.n o.result.p o.ensures c.if-first-ne-YES.false c.part-f.ensures in
-    encoded a.profile a.book.now a.out.now f o.result.v o.result.n o.result.p q _ c.encodable.ensures (not-false _ c.if-not-encodable.false) c.row_count-rows.result c.row_count-rows.ensures _ _ (omega (arith, c.if-out-index.false, c.index.ensures)) c.write.ensures c.answer_of-2.ensures
+    encoded a.profile a.book.now a.out.now f o.result.v o.result.n o.result.p q _ c.encodable.ensures c.if-not-encodable.false c.row_count-rows.result c.row_count-rows.ensures _ _ (omega (arith, c.if-out-index.false, c.index.ensures)) c.write.ensures c.answer_of-2.ensures

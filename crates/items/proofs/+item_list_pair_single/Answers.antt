@@ -26,7 +26,7 @@ pub item-list-requires : goal.item-list-requires
 item-list-requires t c =
     let k = c.skip-from in
     let o = c.opens.ensures.to c.if-opens.true in
-    (omega (arith, o.0, k.ensures.from, c.requires.0), (omega (arith, o.0), omega arith, c.requires.2))
+    (omega (arith, o.0, k.ensures.from, c.decreases), (omega (arith, o.0), omega arith, c.requires.2))
 
 pub item-returns-then-opens : goal.item-returns-then-opens
 item-returns-then-opens t c =
@@ -44,7 +44,7 @@ item-returns t c = let k = c.skip-from in item_empty _ _ _ _ k.result k.ensures 
 pub list-pair-requires : goal.list-pair-requires
 list-pair-requires t c =
     let q = word_said c.args.s.now c.args.at c.said-1.given.1 c.word-said.ensures in
-    (omega (arith, q.1, q.2, c.requires.0), (q.2, c.requires.1, c.if-w-lt4.true, c.requires.2))
+    (omega (arith, q.1, q.2, c.decreases), (q.2, c.requires.1, c.if-w-lt4.true, c.requires.2))
 
 pub list-returns-then-w-lt4 : goal.list-returns-then-w-lt4
 list-returns-then-w-lt4 t c =
@@ -53,7 +53,7 @@ list-returns-then-w-lt4 t c =
 pub list-single-requires : goal.list-single-requires
 list-single-requires t c =
     let q = word_said c.args.s.now c.args.at c.said-1.given.1 c.word-said.ensures in
-    (omega (arith, q.1, q.2, c.requires.0), (q.2, c.requires.1, c.requires.2))
+    (omega (arith, q.1, q.2, c.decreases), (q.2, c.requires.1, c.requires.2))
 
 pub list-returns-then-w-eq4 : goal.list-returns-then-w-eq4
 list-returns-then-w-eq4 t c =
@@ -76,7 +76,7 @@ list-returns-in-Nothing t c =
     stops_at _ _ _ _ r.0.0 c.refused.ensures.0 c.refused.ensures.1 (λ σ e. q σ)
 
 pub pair-item-first-requires : goal.pair-item-first-requires
-pair-item-first-requires t c = (omega (arith, c.requires.0), (c.requires.0, omega arith, c.requires.3))
+pair-item-first-requires t c = (omega (arith, c.decreases), (c.requires.0, omega arith, c.requires.3))
 
 pub pair-returns-then-first-ne-YES : goal.pair-returns-then-first-ne-YES
 pair-returns-then-first-ne-YES t c =
@@ -85,7 +85,7 @@ pair-returns-then-first-ne-YES t c =
 pub pair-item-second-requires : goal.pair-item-second-requires
 pair-item-second-requires t c =
     let q = c.item-first.ensures.read c.if-first-ne-YES.false in
-    (omega (arith, c.requires.0, q.from, q.inside), (q.inside, omega arith, q.fine))
+    (omega (arith, c.decreases, q.from, q.inside), (q.inside, omega arith, q.fine))
 
 pub pair-returns-then-second-ne-YES : goal.pair-returns-then-second-ne-YES
 pair-returns-then-second-ne-YES t c =
@@ -109,7 +109,7 @@ pair-returns t c =
     joins_are _ _ _ _ c.args.w _ c.requires.2 (pair_read _ _ _ _ (join_of c.args.w) _ q _ u c.joined-n.ensures _ c.closed.ensures)
 
 pub single-item-only-requires : goal.single-item-only-requires
-single-item-only-requires t c = (omega (arith, c.requires.0), (c.requires.0, omega arith, c.requires.2))
+single-item-only-requires t c = (omega (arith, c.decreases), (c.requires.0, omega arith, c.requires.2))
 
 pub single-returns-then-only-ne-YES : goal.single-returns-then-only-ne-YES
 single-returns-then-only-ne-YES t c = first_refused _ _ _ _ only_one c.item-only.ensures c.if-only-ne-YES.true

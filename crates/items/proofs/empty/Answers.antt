@@ -36,7 +36,7 @@ returns-then-not-edge c =
     let a = c.args in
     let r = c.found-1.given in
     let q : EmpIs a.s.now a.at (At r.0.0) = subst (EmpIs a.s.now a.at) r.1 c.emp-found.ensures in
-    let f : c.edge.result ≡ false = not-true c.edge.result c.if-not-edge.true in
+    let f : c.edge.result ≡ false = c.if-not-edge.true in
     emp_open _ _ _ _ r.0.0 q c.one_node-n.ensures c.if-n-eq0.false (fails _ c.edge.ensures f) c.refused-then-not-edge.ensures.0 c.refused-then-not-edge.ensures.1
 
 pub returns-else-not-edge : goal.returns-else-not-edge
@@ -44,7 +44,7 @@ returns-else-not-edge c =
     let a = c.args in
     let r = c.found-1.given in
     let q : EmpIs a.s.now a.at (At r.0.0) = subst (EmpIs a.s.now a.at) r.1 c.emp-found.ensures in
-    let f : c.edge.result ≡ true = not-false c.edge.result c.if-not-edge.false in
+    let f : c.edge.result ≡ true = c.if-not-edge.false in
     emp_read _ _ _ _ r.0.0 q c.one_node-n.ensures c.if-n-eq0.false (c.edge.ensures.to f) c.requires.2.names
 
 pub returns-in-Bad : goal.returns-in-Bad

@@ -114,22 +114,22 @@ pub digit-is_target-requires : goal.digit-is_target-requires
 digit-is_target-requires t c = (c.requires.2.meets.small, omega (arith, c.requires.0.ready.few_locs))
 
 pub digit-returns-then-not-is_target : goal.digit-returns-then-not-is_target
-digit-returns-then-not-is_target t c = fill_clash _ _ _ _ c.requires.0.ready.barred _ c.requires.1 _ _ _ c.requires.2 _ _ _ (fails _ c.is_target.ensures (not-true _ c.if-not-is_target.true))
+digit-returns-then-not-is_target t c = fill_clash _ _ _ _ c.requires.0.ready.barred _ c.requires.1 _ _ _ c.requires.2 _ _ _ (fails _ c.is_target.ensures c.if-not-is_target.true)
 
 pub digit-placed-requires : goal.digit-placed-requires
 digit-placed-requires t c = (omega (arith, c.requires.0.ready.few_locs), c.requires.3, omega (arith, c.requires.2.up_to, c.requires.0.ready.few_locs))
 
 pub digit-both-requires : goal.digit-both-requires
-digit-both-requires t c = let q = (put_filled _ _ _ _ c.requires.0.ready.barred _ c.requires.1 _ _ _ c.requires.2 _ _ c.requires.3 c.requires.7 c.placed.ensures c.requires.4 (c.is_target.ensures.to (not-false _ c.if-not-is_target.false))) in (omega arith, (c.requires.0, q.heap, whole_heap _ _ _ _ c.requires.0.ready.barred _ c.requires.1 _ _ _ q, c.requires.8))
+digit-both-requires t c = let q = (put_filled _ _ _ _ c.requires.0.ready.barred _ c.requires.1 _ _ _ c.requires.2 _ _ c.requires.3 c.requires.7 c.placed.ensures c.requires.4 (c.is_target.ensures.to c.if-not-is_target.false)) in (omega arith, (c.requires.0, q.heap, whole_heap _ _ _ _ c.requires.0.ready.barred _ c.requires.1 _ _ _ q, c.requires.8))
 
 pub digit-returns-then-next-eq0 : goal.digit-returns-then-next-eq0
-digit-returns-then-next-eq0 t c = put_found _ _ _ _ c.requires.0.ready.barred _ c.requires.1 _ _ _ c.requires.2 _ _ _ _ c.requires.3 c.requires.7 c.placed.ensures _ (fill_skip _ _ _ _ c.requires.0.ready.barred _ c.requires.1 _ _ _ (put_filled _ _ _ _ c.requires.0.ready.barred _ c.requires.1 _ _ _ c.requires.2 _ _ c.requires.3 c.requires.7 c.placed.ensures c.requires.4 (c.is_target.ensures.to (not-false _ c.if-not-is_target.false))) _ _ 0 _ (subst (SourceBelow _ _ _) c.if-next-eq0.true c.requires.6) (fill_last _ _ _ _ c.requires.0.ready.barred _ c.requires.1 _ _ (fill_less _ _ _ _ c.requires.0.ready.barred _ c.requires.1 _ _ _ (put_filled _ _ _ _ c.requires.0.ready.barred _ c.requires.1 _ _ _ c.requires.2 _ _ c.requires.3 c.requires.7 c.placed.ensures c.requires.4 (c.is_target.ensures.to (not-false _ c.if-not-is_target.false))) _ zero-le) _ _ _ c.both.ensures))
+digit-returns-then-next-eq0 t c = put_found _ _ _ _ c.requires.0.ready.barred _ c.requires.1 _ _ _ c.requires.2 _ _ _ _ c.requires.3 c.requires.7 c.placed.ensures _ (fill_skip _ _ _ _ c.requires.0.ready.barred _ c.requires.1 _ _ _ (put_filled _ _ _ _ c.requires.0.ready.barred _ c.requires.1 _ _ _ c.requires.2 _ _ c.requires.3 c.requires.7 c.placed.ensures c.requires.4 (c.is_target.ensures.to c.if-not-is_target.false)) _ _ 0 _ (subst (SourceBelow _ _ _) c.if-next-eq0.true c.requires.6) (fill_last _ _ _ _ c.requires.0.ready.barred _ c.requires.1 _ _ (fill_less _ _ _ _ c.requires.0.ready.barred _ c.requires.1 _ _ _ (put_filled _ _ _ _ c.requires.0.ready.barred _ c.requires.1 _ _ _ c.requires.2 _ _ c.requires.3 c.requires.7 c.placed.ensures c.requires.4 (c.is_target.ensures.to c.if-not-is_target.false)) _ zero-le) _ _ _ c.both.ensures))
 
 pub digit-fill-requires : goal.digit-fill-requires
-digit-fill-requires t c = let sb = c.requires.6 in (omega (arith, c.requires.5), (c.requires.0, c.requires.1, (fill_less _ _ _ _ c.requires.0.ready.barred _ c.requires.1 _ _ _ (put_filled _ _ _ _ c.requires.0.ready.barred _ c.requires.1 _ _ _ c.requires.2 _ _ c.requires.3 c.requires.7 c.placed.ensures c.requires.4 (c.is_target.ensures.to (not-false _ c.if-not-is_target.false))) _ sb.low), omega arith, sb.source c.if-next-eq0.false, c.requires.8))
+digit-fill-requires t c = let sb = c.requires.6 in (omega (arith, c.requires.5), (c.requires.0, c.requires.1, (fill_less _ _ _ _ c.requires.0.ready.barred _ c.requires.1 _ _ _ (put_filled _ _ _ _ c.requires.0.ready.barred _ c.requires.1 _ _ _ c.requires.2 _ _ c.requires.3 c.requires.7 c.placed.ensures c.requires.4 (c.is_target.ensures.to c.if-not-is_target.false)) _ sb.low), omega arith, sb.source c.if-next-eq0.false, c.requires.8))
 
 pub digit-returns : goal.digit-returns
-digit-returns t c = put_found _ _ _ _ c.requires.0.ready.barred _ c.requires.1 _ _ _ c.requires.2 _ _ _ _ c.requires.3 c.requires.7 c.placed.ensures _ (fill_skip _ _ _ _ c.requires.0.ready.barred _ c.requires.1 _ _ _ (put_filled _ _ _ _ c.requires.0.ready.barred _ c.requires.1 _ _ _ c.requires.2 _ _ c.requires.3 c.requires.7 c.placed.ensures c.requires.4 (c.is_target.ensures.to (not-false _ c.if-not-is_target.false))) _ _ _ _ c.requires.6 c.fill.ensures)
+digit-returns t c = put_found _ _ _ _ c.requires.0.ready.barred _ c.requires.1 _ _ _ c.requires.2 _ _ _ _ c.requires.3 c.requires.7 c.placed.ensures _ (fill_skip _ _ _ _ c.requires.0.ready.barred _ c.requires.1 _ _ _ (put_filled _ _ _ _ c.requires.0.ready.barred _ c.requires.1 _ _ _ c.requires.2 _ _ c.requires.3 c.requires.7 c.placed.ensures c.requires.4 (c.is_target.ensures.to c.if-not-is_target.false)) _ _ _ _ c.requires.6 c.fill.ensures)
 
 pub fill-source_below-next-requires : goal.fill-source_below-next-requires
 fill-source_below-next-requires t c = omega (arith, c.requires.2.up_to, c.requires.0.ready.few_locs)
@@ -186,40 +186,40 @@ pub join-added-requires : goal.join-added-requires
 join-added-requires t c = (omega arith, (c.requires.0, c.requires.1, c.requires.2))
 
 pub join-returns-in-5 : goal.join-returns-in-5
-join-returns-in-5 t c = c.both.ensures ∙ sym (truth_5 _ _ _ c.requires.0 _ c.in-5.keys1)
+join-returns-in-5 t c = c.both.ensures ∙ sym (truth_5 _ _ _ c.requires.0 _ c.in-5.is)
 
 pub join-returns-then-a_holds : goal.join-returns-then-a_holds
-join-returns-then-a_holds t c = sym (truth_6 _ _ _ c.requires.0 _ c.in-6.keys2 ∙ rw (← c.a_holds.ensures, c.if-a_holds.true))
+join-returns-then-a_holds t c = sym (truth_6 _ _ _ c.requires.0 _ c.in-6.is ∙ rw (← c.a_holds.ensures, c.if-a_holds.true))
 
 pub join-returns-else-a_holds : goal.join-returns-else-a_holds
-join-returns-else-a_holds t c = c.b_holds.ensures ∙ sym (truth_6 _ _ _ c.requires.0 _ c.in-6.keys2 ∙ rw (← c.a_holds.ensures, c.if-a_holds.false))
+join-returns-else-a_holds t c = c.b_holds.ensures ∙ sym (truth_6 _ _ _ c.requires.0 _ c.in-6.is ∙ rw (← c.a_holds.ensures, c.if-a_holds.false))
 
 pub join-returns-then-a_holds-2 : goal.join-returns-then-a_holds-2
-join-returns-then-a_holds-2 t c = ap not c.b_holds-then-a_holds-2.ensures ∙ sym (truth_7 _ _ _ c.requires.0 _ c.in-7.keys3 ∙ rw (← c.a_holds-in-7.ensures, c.if-a_holds-2.true))
+join-returns-then-a_holds-2 t c = ap not c.b_holds-then-a_holds-2.ensures ∙ sym (truth_7 _ _ _ c.requires.0 _ c.in-7.is ∙ rw (← c.a_holds-in-7.ensures, c.if-a_holds-2.true))
 
 pub join-returns-else-a_holds-2 : goal.join-returns-else-a_holds-2
-join-returns-else-a_holds-2 t c = sym (truth_7 _ _ _ c.requires.0 _ c.in-7.keys3 ∙ rw (← c.a_holds-in-7.ensures, c.if-a_holds-2.false))
+join-returns-else-a_holds-2 t c = sym (truth_7 _ _ _ c.requires.0 _ c.in-7.is ∙ rw (← c.a_holds-in-7.ensures, c.if-a_holds-2.false))
 
 pub join-returns-in-8 : goal.join-returns-in-8
-join-returns-in-8 t c = ap not c.a_holds-in-8.ensures ∙ sym (truth_8 _ _ _ c.requires.0 _ c.in-8.keys4)
+join-returns-in-8 t c = ap not c.a_holds-in-8.ensures ∙ sym (truth_8 _ _ _ c.requires.0 _ c.in-8.is)
 
 pub join-returns-in-9 : goal.join-returns-in-9
-join-returns-in-9 t c = chosen_any _ _ _ c.requires.0.ready.few_locs c.split.ensures ∙ sym (truth_9 _ _ _ c.requires.0 _ c.in-9.keys5)
+join-returns-in-9 t c = chosen_any _ _ _ c.requires.0.ready.few_locs c.split.ensures ∙ sym (truth_9 _ _ _ c.requires.0 _ c.in-9.is)
 
 pub join-returns-in_default : goal.join-returns-in_default
-join-returns-in_default t c = added_is _ _ _ _ c.requires.0.ready.barred _ c.requires.1 _ _ _ c.added.ensures ∙ sym (truth_10 _ _ _ c.requires.0 _ c.in_default.rest.0.0.0.0.1 c.in_default.rest.0.0.0.1 c.in_default.rest.0.0.1 c.in_default.rest.0.1 c.in_default.rest.1)
+join-returns-in_default t c = added_is _ _ _ _ c.requires.0.ready.barred _ c.requires.1 _ _ _ c.added.ensures ∙ sym (truth_10 _ _ _ c.requires.0 _ (λ e. omega arith) (λ e. omega arith) (λ e. omega arith) (λ e. omega arith) (λ e. omega arith))
 
 pub serves-spread-e-requires : goal.serves-spread-e-requires
 serves-spread-e-requires t c = c.requires.3
 
 pub serves-returns-then-not-parts_apart : goal.serves-returns-then-not-parts_apart
-serves-returns-then-not-parts_apart t c = serves_not_apart _ _ _ _ c.requires.0.ready.barred _ _ _ _ c.requires.1 c.requires.2 c.spread-e.ensures _ _ _ c.requires.4 c.parts_apart.ensures (not-true _ c.if-not-parts_apart.true)
+serves-returns-then-not-parts_apart t c = serves_not_apart _ _ _ _ c.requires.0.ready.barred _ _ _ _ c.requires.1 c.requires.2 c.spread-e.ensures _ _ _ c.requires.4 c.parts_apart.ensures c.if-not-parts_apart.true
 
 pub serves-both-requires : goal.serves-both-requires
 serves-both-requires t c = (omega arith, (c.requires.0, part_is_heap _ _ _ _ c.requires.0.ready.barred _ _ _ _ c.requires.1 c.requires.2 c.spread-e.ensures, rest_is_heap _ _ _ _ c.requires.0.ready.barred _ _ _ _ c.requires.1 c.requires.2 c.spread-e.ensures, c.requires.5))
 
 pub serves-returns : goal.serves-returns
-serves-returns t c = serves_both _ _ _ _ c.requires.0.ready.barred _ _ _ _ c.requires.1 c.requires.2 c.spread-e.ensures _ _ _ c.requires.4 c.parts_apart.ensures _ (not-false _ c.if-not-parts_apart.false) c.both.ensures
+serves-returns t c = serves_both _ _ _ _ c.requires.0.ready.barred _ _ _ _ c.requires.1 c.requires.2 c.spread-e.ensures _ _ _ c.requires.4 c.parts_apart.ensures _ c.if-not-parts_apart.false c.both.ensures
 
 pub split-taken-a-requires : goal.split-taken-a-requires
 split-taken-a-requires t c = heap_more _ _ _ c.requires.0.ready.few_locs c.requires.1

@@ -9,11 +9,11 @@ use Rattle.nodes.proofs.node.Goals as goal
 
 pub returns-then-not-operands : goal.returns-then-not-operands
 unfolding Answers
-returns-then-not-operands c = inr ((omega arith, omega arith), inl (fails _ c.operands.ensures (not-true _ c.if-not-operands.true), c.answer_of.ensures))
+returns-then-not-operands c = inr ((omega arith, omega arith), inl (fails _ c.operands.ensures c.if-not-operands.true, c.answer_of.ensures))
 
 pub returns-else-not-operands : goal.returns-else-not-operands
 unfolding Answers
-returns-else-not-operands c = inr ((omega arith, omega arith), inr (c.operands.ensures.to (not-false _ c.if-not-operands.false), c.answer_of-in-1-to-10.ensures))
+returns-else-not-operands c = inr ((omega arith, omega arith), inr (c.operands.ensures.to c.if-not-operands.false, c.answer_of-in-1-to-10.ensures))
 
 pub returns-in_default : goal.returns-in_default
 unfolding Answers

@@ -1,4 +1,5 @@
 -- `operands::is_operand` meets its contract. Assumes nothing.
+use native.Mathlib.Omega.{arith}
 use borrow.Author.Rules.{rules}
 use mathlib.Core.Path.{subst⁻¹}
 use Prim.Native.Nat.{ℕ}
@@ -9,13 +10,13 @@ use Rattle.logic.specs.TableLaws.{is_zero, is_variable, is_child}
 use Rattle.operands.proofs.is_operand.Goals as goal
 
 pub returns-in-0 : goal.returns-in-0
-returns-in-0 c = let a = c.args in is_zero a.v a.k a.kind a.x c.in-0.keys1
+returns-in-0 c = let a = c.args in is_zero a.v a.k a.kind a.x c.in-0.is
 
 pub returns-in-1 : goal.returns-in-1
-returns-in-1 c = let a = c.args in is_variable a.v a.k a.kind a.x c.in-1.keys2
+returns-in-1 c = let a = c.args in is_variable a.v a.k a.kind a.x c.in-1.is
 
 pub returns-in_default : goal.returns-in_default
 returns-in_default c =
     let a = c.args in
     subst⁻¹ (λ (y : ℕ). Is (ltb y a.k) (Operand a.v a.k a.kind a.x)) c.wide.ensures.0
-    (is_child a.v a.k a.kind a.x c.in_default.rest.0.1 c.in_default.rest.1)
+    (is_child a.v a.k a.kind a.x (λ e. omega arith) (λ e. omega arith))

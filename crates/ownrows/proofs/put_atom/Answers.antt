@@ -25,13 +25,13 @@ put_ors-requires c =
     (omega (arith, row_after q.ensures), space_after a.n _ q.ensures h q.auto.0)
 
 pub returns-in-1 : goal.returns-in-1
-returns-in-1 c = same_rows _ _ _ _ _ _ _ _ _ _ _ _ c.put_pair.ensures c.in-1.keys1 c.plain.ensures c.plain-in-1.ensures
+returns-in-1 c = same_rows _ _ _ _ _ _ _ _ _ _ _ _ c.put_pair.ensures c.in-1.is c.plain.ensures c.plain-in-1.ensures
 
 pub returns-in-2 : goal.returns-in-2
-returns-in-2 c = diff_rows _ _ _ _ _ _ _ _ _ _ _ _ c.put_pair-in-2.ensures c.in-2.keys2 c.plain-in-2.ensures c.plain-in-2-2.ensures
+returns-in-2 c = diff_rows _ _ _ _ _ _ _ _ _ _ _ _ c.put_pair-in-2.ensures c.in-2.is c.plain-in-2.ensures c.plain-in-2-2.ensures
 
 pub returns-in-3 : goal.returns-in-3
-returns-in-3 c = pts_rows _ _ _ _ _ _ _ _ _ _ _ _ c.put_pair-in-3.ensures c.in-3.keys3 c.plain-in-3.ensures c.plain-in-3-2.ensures
+returns-in-3 c = pts_rows _ _ _ _ _ _ _ _ _ _ _ _ c.put_pair-in-3.ensures c.in-3.is c.plain-in-3.ensures c.plain-in-3-2.ensures
 
 pub returns-in_default : goal.returns-in_default
 returns-in_default c =

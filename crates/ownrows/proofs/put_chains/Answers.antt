@@ -28,7 +28,7 @@ loop-k-preserved c =
       chains_more a.a a.s a.x a.y l.k (omega (arith, c.requires.1.out)) l.invariant.0 c.chain.ensures c.put_row-t.ensures,
       search rules,
       l.invariant.2,
-      c.put_row-t.auto.0 ∙ l.invariant.3,
+      c.put_row-t.auto.out ∙ l.invariant.3,
     )
 
 pub shape_of-out : goal.shape_of-out

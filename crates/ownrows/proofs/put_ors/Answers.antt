@@ -34,7 +34,7 @@ loop-k-preserved c =
       ors_more a.r _ l.k _ _ (omega (arith, c.requires.1.out)) l.invariant.0 l.invariant.2 (ap (λ (x : ℕ). a.r + x + 1) c.short.ensures) c.put_or-t.ensures,
       search rules,
       so_far_next _ _ _ _ (row_after l.invariant.0),
-      c.put_or-t.auto.0 ∙ l.invariant.3,
+      c.put_or-t.auto.out ∙ l.invariant.3,
     )
 
 pub shape_of-out : goal.shape_of-out

@@ -22,7 +22,7 @@ put_apart-requires c =
     (omega (arith, row_after r.ensures), space_after k _ r.ensures h r.auto.0)
 
 pub shape_of-out : goal.shape_of-out
-shape_of-out c = c.put_apart.auto.0 ∙ c.put_also-u.auto.0 ∙ c.put_and-t.auto.0
+shape_of-out c = c.put_apart.auto.out ∙ c.put_also-u.auto.out ∙ c.put_and-t.auto.out
 
 pub returns : goal.returns
 returns c =

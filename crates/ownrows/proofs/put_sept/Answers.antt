@@ -32,7 +32,7 @@ put_also-requires c =
     (omega (arith, row_after w.ensures, row_after r.ensures), space_after 2 _ w.ensures g w.auto.0)
 
 pub shape_of-out : goal.shape_of-out
-shape_of-out c = c.put_also.auto.0 ∙ c.put_apart-w.auto.0 ∙ c.put_also-u.auto.0 ∙ c.put_and-t.auto.0
+shape_of-out c = c.put_also.auto.out ∙ c.put_apart-w.auto.out ∙ c.put_also-u.auto.out ∙ c.put_and-t.auto.out
 
 pub returns : goal.returns
 returns c =

@@ -22,12 +22,12 @@ returns-then-op-le2 c =
 pub put_word-requires-in-7 : goal.put_word-requires-in-7
 unfolding behind
 put_word-requires-in-7 c =
-    room_as c.args.at c.args.out.now (sym (ap behind c.in-7.keys1)) c.requires.2
+    room_as c.args.at c.args.out.now (sym (ap behind c.in-7.is)) c.requires.2
 
 pub put_word-requires-in-10 : goal.put_word-requires-in-10
 unfolding behind
 put_word-requires-in-10 c =
-    room_as c.args.at c.args.out.now (sym (ap behind c.in-10.keys2)) c.requires.2
+    room_as c.args.at c.args.out.now (sym (ap behind c.in-10.is)) c.requires.2
 
 pub put_word-requires-in_default : goal.put_word-requires-in_default
 unfolding behind
@@ -39,14 +39,14 @@ shape_of-out-in-7 c = puts_long c.put_word-in-7.ensures
 
 pub returns-in-7 : goal.returns-in-7
 unfolding behind
-returns-in-7 c = puts_as (sym (ap behind c.in-7.keys1)) c.put_word-in-7.ensures
+returns-in-7 c = puts_as (sym (ap behind c.in-7.is)) c.put_word-in-7.ensures
 
 pub shape_of-out-in-10 : goal.shape_of-out-in-10
 shape_of-out-in-10 c = puts_long c.put_word-in-10.ensures
 
 pub returns-in-10 : goal.returns-in-10
 unfolding behind
-returns-in-10 c = puts_as (sym (ap behind c.in-10.keys2)) c.put_word-in-10.ensures
+returns-in-10 c = puts_as (sym (ap behind c.in-10.is)) c.put_word-in-10.ensures
 
 pub shape_of-out-in_default : goal.shape_of-out-in_default
 shape_of-out-in_default c = puts_long c.put_word-in_default.ensures

@@ -29,14 +29,14 @@ returns-then-not-is_in_range c =
     let l = c.loop-i in
     let refused : ¬ (c.answer_of.result.number ≡ 0) = λ e. omega (arith, ap (λ (r : Answer). r.number) c.answer_of.ensures, e) in
     upto_refused (byte_checks a.v a.n a.model.now) (a.v + a.n) l.i c.answer_of.result c.loop-i-test.true l.invariant.1
-    (inl (fails _ c.is_in_range.ensures (not-true _ c.if-not-is_in_range.true), c.answer_of.ensures)) refused
+    (inl (fails _ c.is_in_range.ensures c.if-not-is_in_range.true, c.answer_of.ensures)) refused
 
 pub loop-i-preserved : goal.loop-i-preserved
 unfolding Passes
 loop-i-preserved c =
     let a = c.args in
     let l = c.loop-i in
-    (search rules, rw add-one (passes_more (byte_checks a.v a.n a.model.now) l.i l.invariant.1 (c.is_in_range.ensures.to (not-false _ c.if-not-is_in_range.false), tt)))
+    (search rules, rw add-one (passes_more (byte_checks a.v a.n a.model.now) l.i l.invariant.1 (c.is_in_range.ensures.to c.if-not-is_in_range.false, tt)))
 
 pub returns : goal.returns
 returns c =

@@ -27,21 +27,21 @@ pub returns-in-1 : goal.returns-in-1
 returns-in-1 c =
     let a = c.args in
     let z = c.requires in
-    is_same_atom _ _ _ _ _ _ _ _ _ _ _ _ _ c.heap_at-w.ensures.0 c.in-1.keys1 (location_is a.g a.q.now a.arrays.now z.0 _ _ c.cell-b.ensures) (location_is a.g a.q.now a.arrays.now z.0 _ _ c.cell-c.ensures) c.and.ensures
+    is_same_atom _ _ _ _ _ _ _ _ _ _ _ _ _ c.heap_at-w.ensures.0 c.in-1.is (location_is a.g a.q.now a.arrays.now z.0 _ _ c.cell-b.ensures) (location_is a.g a.q.now a.arrays.now z.0 _ _ c.cell-c.ensures) c.and.ensures
     c.is_empty.ensures
 
 pub returns-in-2 : goal.returns-in-2
 returns-in-2 c =
     let a = c.args in
     let z = c.requires in
-    is_diff_atom _ _ _ _ _ _ _ _ _ _ _ _ _ c.heap_at-w.ensures.0 c.in-2.keys2 (location_is a.g a.q.now a.arrays.now z.0 _ _ c.cell-b.ensures) (location_is a.g a.q.now a.arrays.now z.0 _ _ c.cell-c.ensures) c.and-in-2.ensures
+    is_diff_atom _ _ _ _ _ _ _ _ _ _ _ _ _ c.heap_at-w.ensures.0 c.in-2.is (location_is a.g a.q.now a.arrays.now z.0 _ _ c.cell-b.ensures) (location_is a.g a.q.now a.arrays.now z.0 _ _ c.cell-c.ensures) c.and-in-2.ensures
     c.is_empty-in-2.ensures
 
 pub returns-in-3 : goal.returns-in-3
 returns-in-3 c =
     let a = c.args in
     let z = c.requires in
-    is_pts_atom _ _ _ _ _ _ _ _ _ _ _ _ c.heap_at-w.ensures.0 c.in-3.keys3 (location_is a.g a.q.now a.arrays.now z.0 _ _ c.cell-b.ensures) (location_is a.g a.q.now a.arrays.now z.0 _ _ c.cell-c.ensures)
+    is_pts_atom _ _ _ _ _ _ _ _ _ _ _ _ c.heap_at-w.ensures.0 c.in-3.is (location_is a.g a.q.now a.arrays.now z.0 _ _ c.cell-b.ensures) (location_is a.g a.q.now a.arrays.now z.0 _ _ c.cell-c.ensures)
     c.is_points.ensures
 
 pub returns-in_default : goal.returns-in_default

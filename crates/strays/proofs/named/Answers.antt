@@ -34,7 +34,7 @@ returns-then-not-is_marked c =
     let i = a.v - l.left in
     let m = c.marks-m in
     let refused : ¬ (c.answer_of.result.number ≡ 0) = λ e. omega (arith, ap (λ (r : Answer). r.number) c.answer_of.ensures, e) in
-    let unmarked = fails _ c.is_marked.ensures (not-true _ c.if-not-is_marked.true) in
+    let unmarked = fails _ c.is_marked.ensures c.if-not-is_marked.true in
     upto_refused (name_checks a.f.now) a.v i c.answer_of.result (omega (arith, c.loop-left-test.true)) l.invariant.1
     (inl (λ h. unmarked ((m.ensures (i + 1)).from (subst⁻¹ (NamedByAtom a.f.now) (add-one i) h)), c.answer_of.ensures ∙ ap (answer stray_variable) (add-one i))) refused
 
@@ -45,7 +45,7 @@ loop-left-preserved c =
     let l = c.loop-left in
     let i = a.v - l.left in
     let m = c.marks-m in
-    let here : NamedByAtom a.f.now (suc i) = subst (NamedByAtom a.f.now) (add-one i) ((m.ensures (i + 1)).to (c.is_marked.ensures.to (not-false _ c.if-not-is_marked.false))) in
+    let here : NamedByAtom a.f.now (suc i) = subst (NamedByAtom a.f.now) (add-one i) ((m.ensures (i + 1)).to (c.is_marked.ensures.to c.if-not-is_marked.false)) in
     let next : suc i ≡ a.v - (l.left - 1) = omega (arith, c.loop-left-test.true) in
     (search rules, subst (λ (j : ℕ). Passes (upto (name_checks a.f.now) j)) next (passes_more (name_checks a.f.now) i l.invariant.1 (here, tt)))
 

@@ -21,37 +21,37 @@ pub returns-then-not-is_letter : goal.returns-then-not-is_letter
 returns-then-not-is_letter c =
     let a = c.args in
     let l = c.loop-e in
-    let f : c.is_letter.result ≡ false = not-true c.is_letter.result c.if-not-is_letter.true in
+    let f : c.is_letter.result ≡ false = c.if-not-is_letter.true in
     (l.invariant.0, c.loop-e-test.true, l.invariant.2, sym c.is_letter.ensures ∙ f, l.invariant.3, l.invariant.4)
 
 pub returns-then-x-ge-EIGHT_LETTERS : goal.returns-then-x-ge-EIGHT_LETTERS
 returns-then-x-ge-EIGHT_LETTERS c =
     let a = c.args in
     let l = c.loop-e in
-    let f : c.is_letter.result ≡ true = not-false c.is_letter.result c.if-not-is_letter.false in
+    let f : c.is_letter.result ≡ true = c.if-not-is_letter.false in
     λ t σ. l.invariant.4 t σ ∙ name_ninth a.s.now l.x l.e c.loop-e-test.true (sym c.is_letter.ensures ∙ f) c.if-x-ge-EIGHT_LETTERS.true t σ
 
 pub overflow_add-x : goal.overflow_add-x
 overflow_add-x c =
     let a = c.args in
     let l = c.loop-e in
-    let f : c.is_letter.result ≡ true = not-false c.is_letter.result c.if-not-is_letter.false in
+    let f : c.is_letter.result ≡ true = c.if-not-is_letter.false in
     omega (arith, c.long.ensures, letter_byte (get_or a.s.now l.e 0) (sym c.is_letter.ensures ∙ f))
 
 pub returns-then-not-viable : goal.returns-then-not-viable
 returns-then-not-viable c =
     let a = c.args in
     let l = c.loop-e in
-    let f : c.is_letter.result ≡ true = not-false c.is_letter.result c.if-not-is_letter.false in
-    let v : c.viable.result ≡ false = not-true c.viable.result c.if-not-viable.true in
+    let f : c.is_letter.result ≡ true = c.if-not-is_letter.false in
+    let v : c.viable.result ≡ false = c.if-not-viable.true in
     λ t σ. l.invariant.4 t σ ∙ name_unviable a.s.now l.x l.e c.loop-e-test.true (sym c.is_letter.ensures ∙ f) (l.x * 256 + c.long.result) (ap (λ (y : ℕ). l.x * 256 + y) c.long.ensures) (sym c.viable.ensures ∙ v) t σ
 
 pub loop-e-preserved : goal.loop-e-preserved
 loop-e-preserved c =
     let a = c.args in
     let l = c.loop-e in
-    let f : c.is_letter.result ≡ true = not-false c.is_letter.result c.if-not-is_letter.false in
-    let v : c.viable.result ≡ true = not-false c.viable.result c.if-not-viable.false in
+    let f : c.is_letter.result ≡ true = c.if-not-is_letter.false in
+    let v : c.viable.result ≡ true = c.if-not-viable.false in
     let q : l.x * 256 + c.long.result ≡ l.x * 256 + get_or a.s.now l.e 0 = ap (λ (y : ℕ). l.x * 256 + y) c.long.ensures in
     let e : letter (get_or a.s.now l.e 0) ≡ true = sym c.is_letter.ensures ∙ f in
     let i : l.e < length a.s.now = c.loop-e-test.true in (

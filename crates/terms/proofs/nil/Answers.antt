@@ -14,14 +14,14 @@ returns-then-not-ends c =
     let a = c.args in
     let r = c.rest-1.given in
     let k : SpelledIs a.s.now (bytes "nil") a.at (At r.0.0) = subst (SpelledIs a.s.now (bytes "nil") a.at) r.1 c.spelled-rest.ensures in
-    nil_open a.s.now a.last a.at r.0.0 k (subst (EndsIs a.s.now a.last r.0.0) (not-true c.ends.result c.if-not-ends.true) c.ends.ensures)
+    nil_open a.s.now a.last a.at r.0.0 k (subst (EndsIs a.s.now a.last r.0.0) c.if-not-ends.true c.ends.ensures)
 
 pub returns-else-not-ends : goal.returns-else-not-ends
 returns-else-not-ends c =
     let a = c.args in
     let r = c.rest-1.given in
     let k : SpelledIs a.s.now (bytes "nil") a.at (At r.0.0) = subst (SpelledIs a.s.now (bytes "nil") a.at) r.1 c.spelled-rest.ensures in
-    nil_found a.s.now a.last a.at r.0.0 k (subst (EndsIs a.s.now a.last r.0.0) (not-false c.ends.result c.if-not-ends.false) c.ends.ensures)
+    nil_found a.s.now a.last a.at r.0.0 k (subst (EndsIs a.s.now a.last r.0.0) c.if-not-ends.false c.ends.ensures)
 
 pub returns-in-Bad : goal.returns-in-Bad
 returns-in-Bad c =

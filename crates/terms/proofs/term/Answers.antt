@@ -18,14 +18,14 @@ returns-then-s-at c = no_term c.args.s.now c.args.last c.args.at c.requires.0 (�
 pub returns-then-not-is_lower : goal.returns-then-not-is_lower
 returns-then-not-is_lower c =
     let a = c.args in
-    let f : c.is_lower.result ≡ false = not-true c.is_lower.result c.if-not-is_lower.true in
+    let f : c.is_lower.result ≡ false = c.if-not-is_lower.true in
     no_term a.s.now a.last a.at c.requires.0 (λ z q. (c.requires.1 z q, subst (λ (y : ℕ). lower y ≡ false) q.1 (sym c.is_lower.ensures ∙ f)))
 
 pub letters-begun-requires : goal.letters-begun-requires
 letters-begun-requires c =
     let a = c.args in
     let i : a.at < length a.s.now = c.if-s-at.false in
-    let low : c.is_lower.result ≡ true = not-false c.is_lower.result c.if-not-is_lower.false in
+    let low : c.is_lower.result ≡ true = c.if-not-is_lower.false in
     let e : lower (get_or a.s.now a.at 0) ≡ true = sym c.is_lower.ensures ∙ low in
     (omega arith, omega (arith, c.long.ensures, ((is_lower_law (get_or a.s.now a.at 0)).to e).0))
 
@@ -33,7 +33,7 @@ pub ended-requires : goal.ended-requires
 ended-requires c =
     let a = c.args in
     let i : a.at < length a.s.now = c.if-s-at.false in
-    let low : c.is_lower.result ≡ true = not-false c.is_lower.result c.if-not-is_lower.false in
+    let low : c.is_lower.result ≡ true = c.if-not-is_lower.false in
     let e : lower (get_or a.s.now a.at 0) ≡ true = sym c.is_lower.ensures ∙ low in
     let r = c.begun-1.given in
     let q : LettersIs a.s.now (get_or a.s.now a.at 0) (a.at + 1) (Reads r.0.0 r.0.1.0) =
@@ -44,7 +44,7 @@ pub returns-in-Term : goal.returns-in-Term
 returns-in-Term c =
     let a = c.args in
     let i : a.at < length a.s.now = c.if-s-at.false in
-    let low : c.is_lower.result ≡ true = not-false c.is_lower.result c.if-not-is_lower.false in
+    let low : c.is_lower.result ≡ true = c.if-not-is_lower.false in
     let e : lower (get_or a.s.now a.at 0) ≡ true = sym c.is_lower.ensures ∙ low in
     let r = c.begun-1.given in
     let q : LettersIs a.s.now (get_or a.s.now a.at 0) (a.at + 1) (Reads r.0.0 r.0.1.0) =
@@ -55,7 +55,7 @@ pub returns-in-Wrong : goal.returns-in-Wrong
 returns-in-Wrong c =
     let a = c.args in
     let i : a.at < length a.s.now = c.if-s-at.false in
-    let low : c.is_lower.result ≡ true = not-false c.is_lower.result c.if-not-is_lower.false in
+    let low : c.is_lower.result ≡ true = c.if-not-is_lower.false in
     let e : lower (get_or a.s.now a.at 0) ≡ true = sym c.is_lower.ensures ∙ low in
     let r = c.begun-in-Wrong-1.given in
     let q : LettersIs a.s.now (get_or a.s.now a.at 0) (a.at + 1) (Wrong r.0.0) =

@@ -12,11 +12,11 @@ use Rattle.treerows.proofs.+both_join_node.Goals as goal
 
 pub both-node-u-requires : goal.both-node-u-requires
 both-node-u-requires t c =
-    let z = c.requires in (omega (arith, c.requires.0), (omega (arith, z.0, z.1), z.3, z.4, room_first _ _ _ _ _ _ z.5))
+    let z = c.requires in (omega (arith, c.decreases), (omega (arith, z.0, z.1), z.3, z.4, room_first _ _ _ _ _ _ z.5))
 
 pub both-node-next-requires : goal.both-node-next-requires
 both-node-next-requires t c =
-    let z = c.requires in (omega (arith, c.requires.0), (omega (arith, z.0, z.2), z.3, z.4, room_second _ _ _ _ _ _ _ _ _ _ _ z.5 c.node-u.ensures c.node-u.auto.0))
+    let z = c.requires in (omega (arith, c.decreases), (omega (arith, z.0, z.2), z.3, z.4, room_second _ _ _ _ _ _ _ _ _ _ _ z.5 c.node-u.ensures c.node-u.auto.out))
 
 pub both-returns : goal.both-returns
 both-returns t c =
@@ -24,7 +24,7 @@ both-returns t c =
 
 pub join-both-t-requires : goal.join-both-t-requires
 join-both-t-requires t c =
-    let z = c.requires in (omega (arith, c.requires.0), (z.0, z.1, z.2, z.5, z.6, room_none _ _ _ _ _ _ 1 (room_conj _ _ _ _ _ _ _ z.7 c.in-5.keys1)))
+    let z = c.requires in (omega (arith, c.decreases), (z.0, z.1, z.2, z.5, z.6, room_none _ _ _ _ _ _ 1 (room_conj _ _ _ _ _ _ _ z.7 c.in-5.is)))
 
 pub join-overflow_sub-t : goal.join-overflow_sub-t
 join-overflow_sub-t t c =
@@ -36,11 +36,11 @@ join-overflow_sub-t-in-5 t c =
 
 pub join-put_and-requires : goal.join-put_and-requires
 join-put_and-requires t c =
-    space_after 1 _ c.both-t.ensures.puts (room_conj _ _ _ _ _ _ _ c.requires.7 c.in-5.keys1).space c.both-t.auto.0
+    space_after 1 _ c.both-t.ensures.puts (room_conj _ _ _ _ _ _ _ c.requires.7 c.in-5.is).space c.both-t.auto.out
 
 pub join-both-t-requires-in-6 : goal.join-both-t-requires-in-6
 join-both-t-requires-in-6 t c =
-    let z = c.requires in (omega (arith, c.requires.0), (z.0, z.1, z.2, z.5, z.6, room_none _ _ _ _ _ _ 1 (room_disj _ _ _ _ _ _ _ z.7 c.in-6.keys2)))
+    let z = c.requires in (omega (arith, c.decreases), (z.0, z.1, z.2, z.5, z.6, room_none _ _ _ _ _ _ 1 (room_disj _ _ _ _ _ _ _ z.7 c.in-6.is)))
 
 pub join-overflow_sub-t-in-6 : goal.join-overflow_sub-t-in-6
 join-overflow_sub-t-in-6 t c =
@@ -52,19 +52,19 @@ join-overflow_sub-t-in-6-2 t c =
 
 pub join-put_or-requires : goal.join-put_or-requires
 join-put_or-requires t c =
-    space_after 1 _ c.both-t-in-6.ensures.puts (room_disj _ _ _ _ _ _ _ c.requires.7 c.in-6.keys2).space c.both-t-in-6.auto.0
+    space_after 1 _ c.both-t-in-6.ensures.puts (room_disj _ _ _ _ _ _ _ c.requires.7 c.in-6.is).space c.both-t-in-6.auto.out
 
 pub join-both-t-requires-in-7 : goal.join-both-t-requires-in-7
 join-both-t-requires-in-7 t c =
-    let z = c.requires in (omega (arith, c.requires.0), (z.0, z.1, z.2, z.5, z.6, room_none _ _ _ _ _ _ 2 (room_but _ _ _ _ _ _ _ z.7 c.in-7.keys3)))
+    let z = c.requires in (omega (arith, c.decreases), (z.0, z.1, z.2, z.5, z.6, room_none _ _ _ _ _ _ 2 (room_but _ _ _ _ _ _ _ z.7 c.in-7.is)))
 
 pub join-put_but-requires : goal.join-put_but-requires
 join-put_but-requires t c =
-    let q = c.both-t-in-7 in (first_some _ _ _ _ q.ensures, next_some _ _ _ _ q.ensures, space_after 2 _ q.ensures.puts (room_but _ _ _ _ _ _ _ c.requires.7 c.in-7.keys3).space q.auto.0)
+    let q = c.both-t-in-7 in (first_some _ _ _ _ q.ensures, next_some _ _ _ _ q.ensures, space_after 2 _ q.ensures.puts (room_but _ _ _ _ _ _ _ c.requires.7 c.in-7.is).space q.auto.0)
 
 pub join-node-t-requires : goal.join-node-t-requires
 join-node-t-requires t c =
-    let z = c.requires in (omega (arith, c.requires.0), (omega (arith, z.0, z.1), z.5, z.6, (room_neg _ _ _ _ _ _ _ z.7 c.in-8.keys4).0))
+    let z = c.requires in (omega (arith, c.decreases), (omega (arith, z.0, z.1), z.5, z.6, (room_neg _ _ _ _ _ _ _ z.7 c.in-8.is).0))
 
 pub join-overflow_sub-t-in-8 : goal.join-overflow_sub-t-in-8
 join-overflow_sub-t-in-8 t c =
@@ -72,23 +72,23 @@ join-overflow_sub-t-in-8 t c =
 
 pub join-put_not-requires : goal.join-put_not-requires
 join-put_not-requires t c =
-    space_after 1 _ c.node-t.ensures (room_neg _ _ _ _ _ _ _ c.requires.7 c.in-8.keys4).1 c.node-t.auto.0
+    space_after 1 _ c.node-t.ensures (room_neg _ _ _ _ _ _ _ c.requires.7 c.in-8.is).1 c.node-t.auto.out
 
 pub join-overflow_add-new : goal.join-overflow_add-new
 join-overflow_add-new t c =
-    omega (arith, (room_sep _ _ _ _ _ _ _ c.requires.7 c.in-9.keys5).1)
+    omega (arith, (room_sep _ _ _ _ _ _ _ c.requires.7 c.in-9.is).1)
 
 pub join-overflow_add-i : goal.join-overflow_add-i
 join-overflow_add-i t c =
-    omega (arith, (room_sep _ _ _ _ _ _ _ c.requires.7 c.in-9.keys5).1)
+    omega (arith, (room_sep _ _ _ _ _ _ _ c.requires.7 c.in-9.is).1)
 
 pub join-both-t-requires-in-9 : goal.join-both-t-requires-in-9
 join-both-t-requires-in-9 t c =
-    let z = c.requires in (omega (arith, c.requires.0), (z.0, z.1, z.2, z.5, z.6, room_none _ _ _ _ _ _ _ (room_sep _ _ _ _ _ _ _ z.7 c.in-9.keys5).0))
+    let z = c.requires in (omega (arith, c.decreases), (z.0, z.1, z.2, z.5, z.6, room_none _ _ _ _ _ _ _ (room_sep _ _ _ _ _ _ _ z.7 c.in-9.is).0))
 
 pub join-put_sep-requires : goal.join-put_sep-requires
 join-put_sep-requires t c =
-    let q = c.both-t-in-9 in let r = room_sep _ _ _ _ _ _ _ c.requires.7 c.in-9.keys5 in (first_some _ _ _ _ q.ensures, next_some _ _ _ _ q.ensures, omega (arith, r.1), space_after (3 + apart_row_count c.args.profile) _ q.ensures.puts r.0.space q.auto.0)
+    let q = c.both-t-in-9 in let r = room_sep _ _ _ _ _ _ _ c.requires.7 c.in-9.is in (first_some _ _ _ _ q.ensures, next_some _ _ _ _ q.ensures, omega (arith, r.1), space_after (3 + apart_row_count c.args.profile) _ q.ensures.puts r.0.space q.auto.0)
 
 pub join-overflow_add-new-in_default : goal.join-overflow_add-new-in_default
 join-overflow_add-new-in_default t c =
@@ -100,7 +100,7 @@ join-overflow_add-i-in_default t c =
 
 pub join-both-t-requires-in_default : goal.join-both-t-requires-in_default
 join-both-t-requires-in_default t c =
-    let z = c.requires in (omega (arith, c.requires.0), (z.0, z.1, z.2, z.5, z.6, room_none _ _ _ _ _ _ _ (room_sept _ _ _ _ _ _ _ z.7 (omega arith)).0))
+    let z = c.requires in (omega (arith, c.decreases), (z.0, z.1, z.2, z.5, z.6, room_none _ _ _ _ _ _ _ (room_sept _ _ _ _ _ _ _ z.7 (omega arith)).0))
 
 pub join-put_sept-requires : goal.join-put_sept-requires
 join-put_sept-requires t c =
@@ -108,23 +108,23 @@ join-put_sept-requires t c =
 
 pub join-returns-in-5 : goal.join-returns-in-5
 join-returns-in-5 t c =
-    conj_rows _ _ _ _ _ _ _ _ c.in-5.keys1 (room_conj _ _ _ _ _ _ _ c.requires.7 c.in-5.keys1).space c.both-t.ensures c.put_and.ensures
+    conj_rows _ _ _ _ _ _ _ _ c.in-5.is (room_conj _ _ _ _ _ _ _ c.requires.7 c.in-5.is).space c.both-t.ensures c.put_and.ensures
 
 pub join-returns-in-6 : goal.join-returns-in-6
 join-returns-in-6 t c =
-    disj_rows _ _ _ _ _ _ _ _ c.in-6.keys2 (room_disj _ _ _ _ _ _ _ c.requires.7 c.in-6.keys2).space c.both-t-in-6.ensures c.put_or.ensures
+    disj_rows _ _ _ _ _ _ _ _ c.in-6.is (room_disj _ _ _ _ _ _ _ c.requires.7 c.in-6.is).space c.both-t-in-6.ensures c.put_or.ensures
 
 pub join-returns-in-7 : goal.join-returns-in-7
 join-returns-in-7 t c =
-    but_rows _ _ _ _ _ _ _ _ c.in-7.keys3 (room_but _ _ _ _ _ _ _ c.requires.7 c.in-7.keys3).space c.both-t-in-7.ensures c.put_but.ensures
+    but_rows _ _ _ _ _ _ _ _ c.in-7.is (room_but _ _ _ _ _ _ _ c.requires.7 c.in-7.is).space c.both-t-in-7.ensures c.put_but.ensures
 
 pub join-returns-in-8 : goal.join-returns-in-8
 join-returns-in-8 t c =
-    neg_rows _ _ _ _ _ _ _ c.in-8.keys4 (room_neg _ _ _ _ _ _ _ c.requires.7 c.in-8.keys4).1 c.node-t.ensures c.put_not.ensures
+    neg_rows _ _ _ _ _ _ _ c.in-8.is (room_neg _ _ _ _ _ _ _ c.requires.7 c.in-8.is).1 c.node-t.ensures c.put_not.ensures
 
 pub join-returns-in-9 : goal.join-returns-in-9
 join-returns-in-9 t c =
-    sep_encoded _ _ _ _ _ _ _ _ c.in-9.keys5 (room_sep _ _ _ _ _ _ _ c.requires.7 c.in-9.keys5).0.space c.both-t-in-9.ensures c.put_sep.ensures
+    sep_encoded _ _ _ _ _ _ _ _ c.in-9.is (room_sep _ _ _ _ _ _ _ c.requires.7 c.in-9.is).0.space c.both-t-in-9.ensures c.put_sep.ensures
 
 pub join-returns-in_default : goal.join-returns-in_default
 join-returns-in_default t c =
@@ -144,7 +144,7 @@ node-join-requires t c =
     let ex = c.wide.ensures.0 in
     let ey = c.wide-in-5-to-10.ensures.0 in
     let h = lower z.2.0 a.f.now z.2.1 a.k _ _ z.0 ex ey l in (
-      omega (arith, c.requires.0),
+      omega (arith, c.decreases),
       (z.0, h.0, h.1, l, omega arith, z.1, z.2, room_join a.profile z.2.0 a.f.now z.2.1 a.k _ _ a.n z.0 ex ey _ _ l z.3),
     )
 

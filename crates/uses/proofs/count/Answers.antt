@@ -13,13 +13,12 @@ use Rattle.uses.proofs.count.Goals as goal
 pub loop-j-init : goal.loop-j-init
 loop-j-init c = (search rules, refl, none_counted c.args.f.now most_nodes)
 
-uses_by_requires : tie.Need-uses-by-requires invariant_loop decreases_loop
-
-uses_by_requires c κs =
-    let a = c.before.before.before.before.args in
-    let p = c.before.before.before.before.requires in
-    let l = c.before.before.loop in
-    let below : l.j < nodes a.f.now = c.before.loop-test.true in
+pub uses_by-requires : goal.uses_by-requires
+uses_by-requires c =
+    let a = c.args in
+    let p = c.requires in
+    let l = c.loop-j in
+    let below : l.j < nodes a.f.now = c.loop-j-test.true in
     (omega arith, p.1 l.j below, omega (arith, p.0), omega (arith, l.invariant.1), λ k. omega (arith, l.invariant.2 k, uses_le a.f.now l.j k))
 
 pub loop-j-preserved : goal.loop-j-preserved
@@ -27,7 +26,7 @@ loop-j-preserved c =
     let a = c.args in
     let l = c.loop-j in
     let q = c.uses_by in
-    (search rules, omega (arith, q.auto.1.1.1.0, l.invariant.1), λ k. omega (arith, q.ensures k, l.invariant.2 k, uses_more a.f.now k l.j))
+    (search rules, omega (arith, q.auto.t, l.invariant.1), λ k. omega (arith, q.ensures k, l.invariant.2 k, uses_more a.f.now k l.j))
 
 pub returns : goal.returns
 returns c =

@@ -14,7 +14,7 @@ tally-requires c =
     let a = c.args in
     let p = c.requires in
     let o = op_of a.f.now a.j in
-    let e : o ≡ 8 = c.in-8.keys1 in
+    let e : o ≡ 8 = c.in-8.is in
     let low = child_operands a.v a.f.now a.j p.1 (omega arith) in
     (omega (arith, low.0, p.2, p.3), omega (arith, p.4 (operand_of a.f.now a.j 0), p.2))
 
@@ -23,7 +23,7 @@ tally-requires-in_default c =
     let a = c.args in
     let p = c.requires in
     let o = op_of a.f.now a.j in
-    let five : 5 ≤ o = ⊎_elim (λ w. omega (arith, w, p.1.operator.0)) (λ w. omega (arith, w)) c.in_default.branch in
+    let five : 5 ≤ o = omega (arith, p.1.operator.0) in
     let low = child_operands a.v a.f.now a.j p.1 five in
     (omega (arith, low.0, p.2, p.3), omega (arith, p.4 (operand_of a.f.now a.j 0), p.2))
 
@@ -32,14 +32,14 @@ tally-requires-in_default-2 c =
     let a = c.args in
     let p = c.requires in
     let o = op_of a.f.now a.j in
-    let five : 5 ≤ o = ⊎_elim (λ w. omega (arith, w, p.1.operator.0)) (λ w. omega (arith, w)) c.in_default.branch in
+    let five : 5 ≤ o = omega (arith, p.1.operator.0) in
     let low = child_operands a.v a.f.now a.j p.1 five in
-    (omega (arith, low.1, p.2, p.3, c.tally-in_default.auto.0), omega (arith, p.2, one_more_low a.t.now c.tally-in_default.new.0 (operand_of a.f.now a.j 0) c.tally-in_default.ensures (operand_of a.f.now a.j 1) (2 * a.j) (p.4 (operand_of a.f.now a.j 1))))
+    (omega (arith, low.1, p.2, p.3, c.tally-in_default.auto.t), omega (arith, p.2, one_more_low a.t.now c.tally-in_default.new.t (operand_of a.f.now a.j 0) c.tally-in_default.ensures (operand_of a.f.now a.j 1) (2 * a.j) (p.4 (operand_of a.f.now a.j 1))))
 
 pub returns-in-8 : goal.returns-in-8
 returns-in-8 c =
     let a = c.args in
-    not_more a.f.now a.j a.t.now c.in-8.keys1 c.tally.new.0 c.tally.ensures
+    not_more a.f.now a.j a.t.now c.in-8.is c.tally.new.t c.tally.ensures
 
 pub returns-in-1-to-4 : goal.returns-in-1-to-4
 returns-in-1-to-4 c =
@@ -51,5 +51,5 @@ returns-in_default c =
     let a = c.args in
     let p = c.requires in
     let o = op_of a.f.now a.j in
-    let five : 5 ≤ o = ⊎_elim (λ w. omega (arith, w, p.1.operator.0)) (λ w. omega (arith, w)) c.in_default.branch in
-    join_more a.f.now a.j a.t.now five c.in_default-1.rest.1 c.tally-in_default.new.0 c.tally-in_default-2.new.0 c.tally-in_default.ensures c.tally-in_default-2.ensures
+    let five : 5 ≤ o = omega (arith, p.1.operator.0) in
+    join_more a.f.now a.j a.t.now five (λ e. omega arith) c.tally-in_default.new.t c.tally-in_default-2.new.t c.tally-in_default.ensures c.tally-in_default-2.ensures

@@ -12,12 +12,12 @@ pub returns-then-s-at : goal.returns-then-s-at
 returns-then-s-at c = let a = c.args in record { to = λ e. subst (λ (i : ℕ). Edge a.s.now i) (omega arith) at_end; from = λ e. refl }
 
 pub returns-in-40 : goal.returns-in-40
-returns-in-40 c = record { to = λ e. at_open (c.if-s-at.false, c.in-40.keys1); from = λ e. refl }
+returns-in-40 c = record { to = λ e. at_open (c.if-s-at.false, c.in-40.is); from = λ e. refl }
 
 pub returns-in-41 : goal.returns-in-41
-returns-in-41 c = record { to = λ e. at_close (c.if-s-at.false, c.in-41.keys2); from = λ e. refl }
+returns-in-41 c = record { to = λ e. at_close (c.if-s-at.false, c.in-41.is); from = λ e. refl }
 
 pub returns-in_default : goal.returns-in_default
 returns-in_default c =
     let a = c.args in
-    edge_else a.s.now a.at c.is_blank.result c.if-s-at.false c.in_default.rest.0.1 c.in_default.rest.1 c.is_blank.ensures
+    edge_else a.s.now a.at c.is_blank.result c.if-s-at.false (λ e. omega arith) (λ e. omega arith) c.is_blank.ensures

@@ -18,7 +18,7 @@ returns-then-not-all_blank c = c.loop-e.invariant
 pub loop-e-preserved : goal.loop-e-preserved
 loop-e-preserved c =
     let l = c.loop-e in
-    let t : c.all_blank.result ≡ true = not-false c.all_blank.result c.if-not-all_blank.false in
+    let t : c.all_blank.result ≡ true = c.if-not-all_blank.false in
     (omega arith, omega arith, λ j k. l.invariant.2 j (c.all_blank.ensures t j k))
 
 pub returns : goal.returns

@@ -18,13 +18,13 @@ loop-e-init c = c.far-e.ensures
 pub returns-then-not-is_blank : goal.returns-then-not-is_blank
 returns-then-not-is_blank c =
     let l = c.loop-e in
-    let t : c.is_blank.result ≡ false = not-true c.is_blank.result c.if-not-is_blank.true in
+    let t : c.is_blank.result ≡ false = c.if-not-is_blank.true in
     record { blanks = l.invariant.2 l.e no_blank; from = l.invariant.0; inside = l.invariant.1; next = λ b q. subst (λ (z : ℕ). blank z ≡ false) q.1 (sym c.is_blank.ensures ∙ t) }
 
 pub loop-e-preserved : goal.loop-e-preserved
 loop-e-preserved c =
     let l = c.loop-e in
-    let t : c.is_blank.result ≡ true = not-false c.is_blank.result c.if-not-is_blank.false in
+    let t : c.is_blank.result ≡ true = c.if-not-is_blank.false in
     (omega arith, omega arith, λ j k. l.invariant.2 j (blank_first c.args.s.now l.e j (sym c.is_blank.ensures ∙ t) c.loop-e-test.true k))
 
 pub returns : goal.returns

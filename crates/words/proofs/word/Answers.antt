@@ -47,7 +47,7 @@ returns-then-not-edge c =
     let r = c.rest-1.given in
     let m : n.result < 9 = omega (arith, n.ensures.0) in
     let q : SpelledIs a.s.now (drop 1 (get_or spellings n.result [])) (k.result + 1) (At r.0.0) = subst (SpelledIs a.s.now (drop 1 (get_or spellings n.result [])) (k.result + 1)) r.1 c.spelled-rest.ensures in
-    let f : c.edge.result ≡ false = not-true c.edge.result c.if-not-edge.true in
+    let f : c.edge.result ≡ false = c.if-not-edge.true in
     word_unended a.s.now a.at k.result n.result k.ensures c.if-s-from.false m n.ensures r.0.0 q (fails _ c.edge.ensures f)
 
 pub returns-else-not-edge : goal.returns-else-not-edge
@@ -58,7 +58,7 @@ returns-else-not-edge c =
     let r = c.rest-1.given in
     let m : n.result < 9 = omega (arith, n.ensures.0) in
     let q : SpelledIs a.s.now (drop 1 (get_or spellings n.result [])) (k.result + 1) (At r.0.0) = subst (SpelledIs a.s.now (drop 1 (get_or spellings n.result [])) (k.result + 1)) r.1 c.spelled-rest.ensures in
-    let f : c.edge.result ≡ true = not-false c.edge.result c.if-not-edge.false in
+    let f : c.edge.result ≡ true = c.if-not-edge.false in
     (m, omega (arith, q.1, k.ensures.from), q.2, word_found a.s.now a.at k.result n.result k.ensures c.if-s-from.false m n.ensures r.0.0 q (c.edge.ensures.to f))
 
 pub returns-in-Bad : goal.returns-in-Bad

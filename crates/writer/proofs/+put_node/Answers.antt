@@ -63,7 +63,7 @@ put_node-a-requires t c =
     let z = c.requires in
     let e = c.wide.ensures.0 in
     let i = lower z.1.0 a.f.now z.1.1.0 a.k _ _ z.0 e refl (omega arith) in
-    (omega (arith, i.0, c.requires.0), (omega (arith, i.0, z.0), z.1, room_behind c.put_before-first.ensures _ (room_to_a z.1.0 a.f.now z.1.1.0 a.k _ _ z.0 e refl (omega arith) a.at a.out.now z.2)))
+    (omega (arith, i.0, c.decreases), (omega (arith, i.0, z.0), z.1, room_behind c.put_before-first.ensures _ (room_to_a z.1.0 a.f.now z.1.1.0 a.k _ _ z.0 e refl (omega arith) a.at a.out.now z.2)))
 
 pub put_behind-requires : goal.put_behind-requires
 put_behind-requires t c =
@@ -98,7 +98,7 @@ put_node-b-requires t c =
     let i = lower z.1.0 a.f.now z.1.1.0 a.k _ _ z.0 ex ey (omega arith) in
     let d = text_join z.1.0 a.f.now z.1.1.0 a.k _ _ z.0 ex ey (omega arith) c.if-op-eq8.false in
     let u = puts_puts (puts_puts c.put_before-first.ensures c.put_node-a.ensures) c.put_between-second.ensures in
-    (omega (arith, i.1, c.requires.0), (omega (arith, i.1, z.0), z.1, room_behind u _ (room_to_second (op_of a.f.now a.k) a.at _ _ a.out.now (room_as a.at a.out.now d z.2))))
+    (omega (arith, i.1, c.decreases), (omega (arith, i.1, z.0), z.1, room_behind u _ (room_to_second (op_of a.f.now a.k) a.at _ _ a.out.now (room_as a.at a.out.now d z.2))))
 
 pub put_behind-requires-2 : goal.put_behind-requires-2
 put_behind-requires-2 t c =
