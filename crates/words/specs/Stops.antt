@@ -36,6 +36,7 @@ module _ (s : List ℕ) where
 
   pub emp_misses : (σ : List Frame) (c : ℕ) (x : List ℕ) {i p : ℕ} → Misses s (c ∷ x) i p → p ≤ length s → onward s (empty c x σ) i ≡ bad p
   unfolding step out alive ending
+  emp_misses σ c [] {i = i} {p = p} (later q k) l = elim k [ ]
   emp_misses σ c [] (here {i = i} f) l = stops (empty c [] σ) i l (λ a q. rw (other_byte a c i f q)) (λ j. refl)
   emp_misses σ c (d ∷ x) (here {i = i} f) l = stops (empty c (d ∷ x) σ) i l (λ a q. rw (other_byte a c i f q)) (λ j. refl)
   emp_misses σ c (d ∷ x) (later q k) l = goes_still s (empty c (d ∷ x) σ) (empty d x σ) q (rw (eq-eqb c c refl)) refl refl ∙ emp_misses σ d x k l

@@ -23,6 +23,7 @@ nodes_grow k (finished q m ∷ es) = omega (arith, nodes_grow (k + m) es)
 
 passes_many : (k : ℕ) (es : List Event) (q : ℕ) → PassesAt k es q → most_nodes < nodes_from k es
 unfolding nodes_from
+passes_many k [] q x = elim x [ ]
 passes_many k (finished p m ∷ es) q (passing a b) = omega (arith, nodes_grow (k + m) es)
 passes_many k (finished p m ∷ es) q (past_item r) = passes_many (k + m) es q r
 passes_many k (named x i j ∷ es) q (past_name r) = passes_many k es q r
@@ -41,6 +42,7 @@ note_new ns x e = rw e (length-append ns (x ∷ []))
 
 over_many : (ns : List (List ℕ)) (es : List Event) (q : ℕ) → NameOverAt most ns es q → most < length (names_from ns es)
 unfolding names_from
+over_many ns [] q x = elim x [ ]
 over_many ns (named x i j ∷ es) q (one_over a b) = omega (arith, b, note_new ns x a, names_grow (note ns x) es)
 over_many ns (named x i j ∷ es) q (after_name r) = over_many (note ns x) es q r
 over_many ns (finished p m ∷ es) q (after_item r) = over_many ns es q r

@@ -39,14 +39,14 @@ pub node-t-requires : goal.node-t-requires
 node-t-requires c =
     let z = c.requires in
     let a = c.args in
-    let e = packed_stack a.q.now (λ i. omega (arith, c.type_inv.given i)) a.v c.packed-stack.result c.packed-stack.ensures in
+    let e = packed_stack a.q.now (λ i. omega (arith, c.type_inv.q i)) a.v c.packed-stack.result c.packed-stack.ensures in
     (ready a.q.now a.f.now a.v a.n a.arrays a.sets z a.profile c.packed-stack.result c.barred.result _ e c.barred.ensures c.unpack-values.ensures, z.table, omega (arith, z.table.some), within a.q.now a.f.now a.v a.n a.arrays a.sets z a.profile c.packed-stack.result c.barred.result)
 
 pub long_holds-requires : goal.long_holds-requires
 long_holds-requires c =
     let z = c.requires in
     let a = c.args in
-    let e = packed_stack a.q.now (λ i. omega (arith, c.type_inv.given i)) a.v c.packed-stack.result c.packed-stack.ensures in
+    let e = packed_stack a.q.now (λ i. omega (arith, c.type_inv.q i)) a.v c.packed-stack.result c.packed-stack.ensures in
     (ready a.q.now a.f.now a.v a.n a.arrays a.sets z a.profile c.packed-stack.result c.barred.result _ e c.barred.ensures c.unpack-values.ensures, omega (arith, z.arrays), omega (arith, z.sets))
 
 pub returns-then-t : goal.returns-then-t

@@ -11,4 +11,4 @@ pub returns : goal.returns
 returns c =
     let a = c.args in
     let q = c.row_of-at in
-    stretch_is a.book.now a.entry q.result.start q.result.length c.FIXME_end_of_lem.result q.ensures.0 q.ensures.1 c.FIXME_end_of_lem.ensures
+    stretch_is a.book.now a.entry q.result.start q.result.length c.end_of-end.result q.ensures.0 q.ensures.1 c.end_of-end.ensures

@@ -21,7 +21,7 @@ pub put_long-u-requires : goal.put_long-u-requires
 put_long-u-requires c =
     let a = c.args in
     let q = c.node-t in
-    (omega (arith, row_after q.ensures, rows_some a.profile a.n (tree a.f.now (root a.f.now))), space_after 2 _ q.ensures c.requires.2.space q.auto.0)
+    (omega (arith, row_after q.ensures, rows_some a.profile a.n (tree a.f.now (root a.f.now))), space_after 2 _ q.ensures c.requires.2.space q.auto.out)
 
 pub returns : goal.returns
 returns c =

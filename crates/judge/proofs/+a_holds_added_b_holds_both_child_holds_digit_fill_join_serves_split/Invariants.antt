@@ -48,14 +48,14 @@ decreases-serves l = 32 * l.k + 2
 abbrev pub decreases-split : goal.decreases-split
 decreases-split l = 32 * l.k + 22
 
-abbrev pub invariant-loop-d : goal.invariant-loop-d
-invariant-loop-d l = (l.d ≤ l.top + 1) × (l.top ≡ locs_of l.b + 1) × Tried (profile_of l.b) (vars_of l.b) (locs_of l.b) (stack_of l.b) (first_at l.f l.b l.k) (second_at l.f l.b l.k) (cells l.w) l.l (cells l.g) l.d
+abbrev pub invariant-fill-loop-d : goal.invariant-fill-loop-d
+invariant-fill-loop-d l = (l.d ≤ l.top + 1) × (l.top ≡ locs_of l.b + 1) × Tried (profile_of l.b) (vars_of l.b) (locs_of l.b) (stack_of l.b) (first_at l.f l.b l.k) (second_at l.f l.b l.k) (cells l.w) l.l (cells l.g) l.d
 
-abbrev pub decreases-loop-d : goal.decreases-loop-d
-decreases-loop-d l = l.top + 1 - l.d
+abbrev pub decreases-fill-loop-d : goal.decreases-fill-loop-d
+decreases-fill-loop-d l = l.top + 1 - l.d
 
-abbrev pub invariant-loop-list : goal.invariant-loop-list
-invariant-loop-list l = Walking l.list (serves_at l.f l.b l.k l.w) l.a l.i
+abbrev pub invariant-split-loop-list : goal.invariant-split-loop-list
+invariant-split-loop-list l = Walking l.list (serves_at l.f l.b l.k l.w) l.a l.i
 
-abbrev pub decreases-loop-list : goal.decreases-loop-list
-decreases-loop-list l = length l.list - l.i
+abbrev pub decreases-split-loop-list : goal.decreases-split-loop-list
+decreases-split-loop-list l = length l.list - l.i

@@ -13,4 +13,4 @@ pub swapped-requires : goal.swapped-requires
 swapped-requires c = (c.requires.0, c.requires.1)
 
 pub returns : goal.returns
-returns c = worse_by _ _ _ _ _ _ (omega arith) (omega arith) c.swapped.ensures c.FIXME_Known-from.ensures (omega arith) c.lower_from.ensures
+returns c = worse_by _ _ _ _ _ _ (omega arith) (omega arith) c.swapped.ensures c.known_from-r.ensures (omega arith) c.lower_from.ensures

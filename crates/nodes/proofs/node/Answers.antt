@@ -17,4 +17,4 @@ returns-else-not-operands c = inr ((omega arith, omega arith), inr (c.operands.e
 
 pub returns-in_default : goal.returns-in_default
 unfolding Answers
-returns-in_default c = inl (λ h. ⊎_elim (λ w. omega (arith, h.0, w)) (λ w. omega (arith, h.1, w.1)) c.in_default.branch, c.answer_of-in_default.ensures)
+returns-in_default c = inl (λ h. omega (arith, h.0, h.1), c.answer_of-in_default.ensures)

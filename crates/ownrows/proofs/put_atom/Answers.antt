@@ -22,7 +22,7 @@ put_ors-requires c =
     let a = c.args in
     let h = space_ls a.n a.op a.x a.y a.a a.s _ _ (omega arith) c.requires.3 in
     let q = c.put_chains-t in
-    (omega (arith, row_after q.ensures), space_after a.n _ q.ensures h q.auto.0)
+    (omega (arith, row_after q.ensures), space_after a.n _ q.ensures h q.auto.out)
 
 pub returns-in-1 : goal.returns-in-1
 returns-in-1 c = same_rows _ _ _ _ _ _ _ _ _ _ _ _ c.put_pair.ensures c.in-1.is c.plain.ensures c.plain-in-1.ensures

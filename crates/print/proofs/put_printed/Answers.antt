@@ -10,7 +10,7 @@ put_lines-requires c =
     let q = c.search-answer in
     let o = c.«open» in
     let low = bounds_low s o.result.answer o.result.v o.result.n o.result.p o.ensures in
-    let places = searched_locations s q.result q.new.1.1.1.0 q.ensures o.result.answer o.result.v o.result.n o.result.p o.ensures in
+    let places = searched_locations s q.result q.new.out q.ensures o.result.answer o.result.v o.result.n o.result.p o.ensures in
     (low.0, low.1, omega arith, places, search rules)
 
 pub returns : goal.returns
@@ -18,4 +18,4 @@ returns c =
     let s = c.args.book.now in
     let q = c.search-answer in
     let o = c.«open» in
-    printed_at_front s q.result q.new.1.1.1.0 q.ensures o.result.answer o.result.v o.result.n o.result.p o.ensures c.put_lines.ensures
+    printed_at_front s q.result q.new.out q.ensures o.result.answer o.result.v o.result.n o.result.p o.ensures c.put_lines.ensures

@@ -1,4 +1,5 @@
 -- `terms::is_word` meets its contract. Assumes nothing.
+use native.Mathlib.Omega.{arith}
 use mathlib.Core.Path.{◌≡◌}
 use Rattle.grammar.specs.Phrase.{Word, joins, denies, relates, spelling}
 use Rattle.grammar.specs.Phrase.Join.{and_word, or_word, sep_word, wand_word}

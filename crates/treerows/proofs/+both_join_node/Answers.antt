@@ -60,7 +60,7 @@ join-both-t-requires-in-7 t c =
 
 pub join-put_but-requires : goal.join-put_but-requires
 join-put_but-requires t c =
-    let q = c.both-t-in-7 in (first_some _ _ _ _ q.ensures, next_some _ _ _ _ q.ensures, space_after 2 _ q.ensures.puts (room_but _ _ _ _ _ _ _ c.requires.7 c.in-7.is).space q.auto.0)
+    let q = c.both-t-in-7 in (first_some _ _ _ _ q.ensures, next_some _ _ _ _ q.ensures, space_after 2 _ q.ensures.puts (room_but _ _ _ _ _ _ _ c.requires.7 c.in-7.is).space q.auto.out)
 
 pub join-node-t-requires : goal.join-node-t-requires
 join-node-t-requires t c =
@@ -88,7 +88,7 @@ join-both-t-requires-in-9 t c =
 
 pub join-put_sep-requires : goal.join-put_sep-requires
 join-put_sep-requires t c =
-    let q = c.both-t-in-9 in let r = room_sep _ _ _ _ _ _ _ c.requires.7 c.in-9.is in (first_some _ _ _ _ q.ensures, next_some _ _ _ _ q.ensures, omega (arith, r.1), space_after (3 + apart_row_count c.args.profile) _ q.ensures.puts r.0.space q.auto.0)
+    let q = c.both-t-in-9 in let r = room_sep _ _ _ _ _ _ _ c.requires.7 c.in-9.is in (first_some _ _ _ _ q.ensures, next_some _ _ _ _ q.ensures, omega (arith, r.1), space_after (3 + apart_row_count c.args.profile) _ q.ensures.puts r.0.space q.auto.out)
 
 pub join-overflow_add-new-in_default : goal.join-overflow_add-new-in_default
 join-overflow_add-new-in_default t c =
@@ -104,7 +104,7 @@ join-both-t-requires-in_default t c =
 
 pub join-put_sept-requires : goal.join-put_sept-requires
 join-put_sept-requires t c =
-    let q = c.both-t-in_default in let r = room_sept _ _ _ _ _ _ _ c.requires.7 (omega arith) in (first_some _ _ _ _ q.ensures, next_some _ _ _ _ q.ensures, omega (arith, r.1), space_after (5 + apart_row_count c.args.profile) _ q.ensures.puts r.0.space q.auto.0)
+    let q = c.both-t-in_default in let r = room_sept _ _ _ _ _ _ _ c.requires.7 (omega arith) in (first_some _ _ _ _ q.ensures, next_some _ _ _ _ q.ensures, omega (arith, r.1), space_after (5 + apart_row_count c.args.profile) _ q.ensures.puts r.0.space q.auto.out)
 
 pub join-returns-in-5 : goal.join-returns-in-5
 join-returns-in-5 t c =

@@ -1,4 +1,5 @@
 -- `words::is_blank` meets its contract. Assumes nothing.
+use native.Mathlib.Omega.{arith}
 use Rattle.words.specs.WordLaws.{space, line_feed, no_blank_byte}
 use Rattle.words.proofs.is_blank.Goals as goal
 

@@ -34,9 +34,8 @@ edge-requires c =
     let a = c.args in
     let k = c.skip-from in
     let n = c.begun-i in
-    let r = c.rest-1.given in
     let m : n.result < 9 = omega (arith, n.ensures.0) in
-    let q : SpelledIs a.s.now (drop 1 (get_or spellings n.result [])) (k.result + 1) (At r.0.0) = subst (SpelledIs a.s.now (drop 1 (get_or spellings n.result [])) (k.result + 1)) r.1 c.spelled-rest.ensures in
+    let q : SpelledIs a.s.now (drop 1 (get_or spellings n.result [])) (k.result + 1) (At c.in-At.e) = subst (SpelledIs a.s.now (drop 1 (get_or spellings n.result [])) (k.result + 1)) c.in-At.is c.spelled-rest.ensures in
     q.2
 
 pub returns-then-not-edge : goal.returns-then-not-edge
@@ -44,29 +43,26 @@ returns-then-not-edge c =
     let a = c.args in
     let k = c.skip-from in
     let n = c.begun-i in
-    let r = c.rest-1.given in
     let m : n.result < 9 = omega (arith, n.ensures.0) in
-    let q : SpelledIs a.s.now (drop 1 (get_or spellings n.result [])) (k.result + 1) (At r.0.0) = subst (SpelledIs a.s.now (drop 1 (get_or spellings n.result [])) (k.result + 1)) r.1 c.spelled-rest.ensures in
+    let q : SpelledIs a.s.now (drop 1 (get_or spellings n.result [])) (k.result + 1) (At c.in-At.e) = subst (SpelledIs a.s.now (drop 1 (get_or spellings n.result [])) (k.result + 1)) c.in-At.is c.spelled-rest.ensures in
     let f : c.edge.result ≡ false = c.if-not-edge.true in
-    word_unended a.s.now a.at k.result n.result k.ensures c.if-s-from.false m n.ensures r.0.0 q (fails _ c.edge.ensures f)
+    word_unended a.s.now a.at k.result n.result k.ensures c.if-s-from.false m n.ensures c.in-At.e q (fails _ c.edge.ensures f)
 
 pub returns-else-not-edge : goal.returns-else-not-edge
 returns-else-not-edge c =
     let a = c.args in
     let k = c.skip-from in
     let n = c.begun-i in
-    let r = c.rest-1.given in
     let m : n.result < 9 = omega (arith, n.ensures.0) in
-    let q : SpelledIs a.s.now (drop 1 (get_or spellings n.result [])) (k.result + 1) (At r.0.0) = subst (SpelledIs a.s.now (drop 1 (get_or spellings n.result [])) (k.result + 1)) r.1 c.spelled-rest.ensures in
+    let q : SpelledIs a.s.now (drop 1 (get_or spellings n.result [])) (k.result + 1) (At c.in-At.e) = subst (SpelledIs a.s.now (drop 1 (get_or spellings n.result [])) (k.result + 1)) c.in-At.is c.spelled-rest.ensures in
     let f : c.edge.result ≡ true = c.if-not-edge.false in
-    (m, omega (arith, q.1, k.ensures.from), q.2, word_found a.s.now a.at k.result n.result k.ensures c.if-s-from.false m n.ensures r.0.0 q (c.edge.ensures.to f))
+    (m, omega (arith, q.1, k.ensures.from), q.2, word_found a.s.now a.at k.result n.result k.ensures c.if-s-from.false m n.ensures c.in-At.e q (c.edge.ensures.to f))
 
 pub returns-in-Bad : goal.returns-in-Bad
 returns-in-Bad c =
     let a = c.args in
     let k = c.skip-from in
     let n = c.begun-i in
-    let r = c.rest-in-Bad-1.given in
     let m : n.result < 9 = omega (arith, n.ensures.0) in
-    let q : SpelledIs a.s.now (drop 1 (get_or spellings n.result [])) (k.result + 1) (Bad r.0.0) = subst (SpelledIs a.s.now (drop 1 (get_or spellings n.result [])) (k.result + 1)) r.1 c.spelled-rest.ensures in
-    word_missed a.s.now a.at k.result n.result k.ensures c.if-s-from.false m n.ensures r.0.0 q
+    let q : SpelledIs a.s.now (drop 1 (get_or spellings n.result [])) (k.result + 1) (Bad c.in-Bad.p) = subst (SpelledIs a.s.now (drop 1 (get_or spellings n.result [])) (k.result + 1)) c.in-Bad.is c.spelled-rest.ensures in
+    word_missed a.s.now a.at k.result n.result k.ensures c.if-s-from.false m n.ensures c.in-Bad.p q

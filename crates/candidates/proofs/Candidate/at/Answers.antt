@@ -8,6 +8,9 @@ use Rattle.candidates.specs.Counter.{Unpacks}
 use Rattle.candidates.specs.UnpackLaws.{at_range, at_number}
 use Rattle.candidates.proofs.Candidate.at.Goals as goal
 
+pub nonzero_div-i : goal.nonzero_div-i
+nonzero_div-i c = let n = c.args.n in omega (arith, c.power.ensures.0, one-le-pow n (n + 2) (omega arith))
+
 pub returns : goal.returns
 returns c =
     let a = c.args in
