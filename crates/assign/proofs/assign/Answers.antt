@@ -14,18 +14,18 @@ use Rattle.assign.proofs.assign.Goals as goal
 pub returns-then-first-ne-YES : goal.returns-then-first-ne-YES
 returns-then-first-ne-YES c =
     let a = c.args in
-    let o = c.«open» in
+    let o = c.open-opened in
     assigns_book a.profile a.book.now a.assignment.now o.result.answer o.ensures.answer c.if-first-ne-YES.true
 
 pub part-f-requires : goal.part-f-requires
 part-f-requires c =
-    let o = c.«open» in
+    let o = c.open-opened in
     read_given c.args.book.now o.result.answer 1 o.ensures.answer c.if-first-ne-YES.false (omega arith)
 
 pub overflow_sub-f : goal.overflow_sub-f
 overflow_sub-f c =
     let a = c.args in
-    let o = c.«open» in
+    let o = c.open-opened in
     let f = c.part-f.result.now in
     let w = opened a.book.now f o.result.answer o.result.v o.result.n o.result.p o.ensures c.if-first-ne-YES.false c.part-f.ensures in
     omega (arith, (known a.book.now f o.result.v o.result.n o.result.p w).some)
@@ -33,7 +33,7 @@ overflow_sub-f c =
 pub encodable-requires : goal.encodable-requires
 encodable-requires c =
     let a = c.args in
-    let o = c.«open» in
+    let o = c.open-opened in
     let f = c.part-f.result.now in
     let w = opened a.book.now f o.result.answer o.result.v o.result.n o.result.p o.ensures c.if-first-ne-YES.false c.part-f.ensures in
     let k = known a.book.now f o.result.v o.result.n o.result.p w in
@@ -42,7 +42,7 @@ encodable-requires c =
 pub returns-then-not-encodable : goal.returns-then-not-encodable
 returns-then-not-encodable c =
     let a = c.args in
-    let o = c.«open» in
+    let o = c.open-opened in
     let f = c.part-f.result.now in
     let w = opened a.book.now f o.result.answer o.result.v o.result.n o.result.p o.ensures c.if-first-ne-YES.false c.part-f.ensures in
     assigns_19 a.profile a.book.now f a.assignment.now o.result.v o.result.n o.result.p w _ _ c.encodable.ensures c.if-not-encodable.true c.answer_of.ensures
@@ -50,7 +50,7 @@ returns-then-not-encodable c =
 pub in_range-second-requires : goal.in_range-second-requires
 in_range-second-requires c =
     let a = c.args in
-    let o = c.«open» in
+    let o = c.open-opened in
     let f = c.part-f.result.now in
     let w = opened a.book.now f o.result.answer o.result.v o.result.n o.result.p o.ensures c.if-first-ne-YES.false c.part-f.ensures in
     let k = known a.book.now f o.result.v o.result.n o.result.p w in
@@ -62,7 +62,7 @@ in_range-second-requires c =
 pub returns-then-second-ne-YES : goal.returns-then-second-ne-YES
 returns-then-second-ne-YES c =
     let a = c.args in
-    let o = c.«open» in
+    let o = c.open-opened in
     let f = c.part-f.result.now in
     let w = opened a.book.now f o.result.answer o.result.v o.result.n o.result.p o.ensures c.if-first-ne-YES.false c.part-f.ensures in
     let k = known a.book.now f o.result.v o.result.n o.result.p w in
@@ -73,7 +73,7 @@ returns-then-second-ne-YES c =
 pub satisfies-requires : goal.satisfies-requires
 satisfies-requires c =
     let a = c.args in
-    let o = c.«open» in
+    let o = c.open-opened in
     let f = c.part-f.result.now in
     let w = opened a.book.now f o.result.answer o.result.v o.result.n o.result.p o.ensures c.if-first-ne-YES.false c.part-f.ensures in
     let k = known a.book.now f o.result.v o.result.n o.result.p w in
@@ -84,7 +84,7 @@ satisfies-requires c =
 pub returns-then-satisfies : goal.returns-then-satisfies
 returns-then-satisfies c =
     let a = c.args in
-    let o = c.«open» in
+    let o = c.open-opened in
     let f = c.part-f.result.now in
     let w = opened a.book.now f o.result.answer o.result.v o.result.n o.result.p o.ensures c.if-first-ne-YES.false c.part-f.ensures in
     let k = known a.book.now f o.result.v o.result.n o.result.p w in
@@ -96,7 +96,7 @@ returns-then-satisfies c =
 pub returns-else-satisfies : goal.returns-else-satisfies
 returns-else-satisfies c =
     let a = c.args in
-    let o = c.«open» in
+    let o = c.open-opened in
     let f = c.part-f.result.now in
     let w = opened a.book.now f o.result.answer o.result.v o.result.n o.result.p o.ensures c.if-first-ne-YES.false c.part-f.ensures in
     let k = known a.book.now f o.result.v o.result.n o.result.p w in

@@ -93,10 +93,10 @@ child_holds-returns-then-op-eq8 t c =
     ap not c.a_holds.ensures ∙ sym (truth_8 _ _ _ (record { ready = c.requires.0; operator = omega (arith, c.if-op-eq8.true) }) _ c.if-op-eq8.true)
 
 pub child_holds-atom-requires : goal.child_holds-atom-requires
-child_holds-atom-requires t c = (omega (arith, c.if-op-lt5.true), c.requires.0, c.requires.1)
+child_holds-atom-requires t c = (omega arith, c.requires.0, c.requires.1)
 
 pub child_holds-join-requires : goal.child_holds-join-requires
-child_holds-join-requires t c = (omega arith, (record { ready = c.requires.0; operator = c.if-op-lt5.false }, c.requires.1, c.requires.2))
+child_holds-join-requires t c = (omega arith, (record { ready = c.requires.0; operator = omega arith }, c.requires.1, c.requires.2))
 
 pub child_holds-returns-in-1-to-4 : goal.child_holds-returns-in-1-to-4
 child_holds-returns-in-1-to-4 t c = c.atom.ensures
@@ -105,10 +105,10 @@ pub child_holds-returns-in-5-to-10 : goal.child_holds-returns-in-5-to-10
 child_holds-returns-in-5-to-10 t c = c.join.ensures
 
 pub child_holds-returns-in_default : goal.child_holds-returns-in_default
-child_holds-returns-in_default t c = absurd (operator_low _ _ _ c.requires.0 c.if-op-lt1.true)
+child_holds-returns-in_default t c = absurd (operator_low _ _ _ c.requires.0 (omega arith))
 
 pub child_holds-returns-in_default-2 : goal.child_holds-returns-in_default-2
-child_holds-returns-in_default-2 t c = absurd (operator_high _ _ _ c.requires.0 c.if-op-lt11.false)
+child_holds-returns-in_default-2 t c = absurd (operator_high _ _ _ c.requires.0 (omega arith))
 
 pub digit-is_target-requires : goal.digit-is_target-requires
 digit-is_target-requires t c = (c.requires.2.meets.small, omega (arith, c.requires.0.ready.few_locs))

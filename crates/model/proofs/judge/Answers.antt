@@ -12,18 +12,18 @@ use Rattle.model.proofs.judge.Goals as goal
 pub returns-then-first-ne-YES : goal.returns-then-first-ne-YES
 returns-then-first-ne-YES c =
     let a = c.args in
-    let o = c.«open» in
+    let o = c.open-opened in
     judges_book a.profile a.book.now a.model.now o.result.answer o.ensures.answer c.if-first-ne-YES.true
 
 pub part-f-requires : goal.part-f-requires
 part-f-requires c =
-    let o = c.«open» in
+    let o = c.open-opened in
     read_given c.args.book.now o.result.answer 1 o.ensures.answer c.if-first-ne-YES.false (omega arith)
 
 pub pack-packed-requires : goal.pack-packed-requires
 pack-packed-requires c =
     let a = c.args in
-    let o = c.«open» in
+    let o = c.open-opened in
     let f = c.part-f in
     let q = opened a.book.now f.result.now o.result.answer o.result.v o.result.n o.result.p o.ensures c.if-first-ne-YES.false f.ensures in
     (vars_low a.book.now f.result.now o.result.v o.result.n o.result.p q, locs_low a.book.now f.result.now o.result.v o.result.n o.result.p q)
@@ -31,7 +31,7 @@ pack-packed-requires c =
 pub returns-then-second-ne-YES : goal.returns-then-second-ne-YES
 returns-then-second-ne-YES c =
     let a = c.args in
-    let o = c.«open» in
+    let o = c.open-opened in
     let f = c.part-f in
     let q = opened a.book.now f.result.now o.result.answer o.result.v o.result.n o.result.p o.ensures c.if-first-ne-YES.false f.ensures in
     let m = c.pack-packed in
@@ -40,7 +40,7 @@ returns-then-second-ne-YES c =
 pub fits-requires : goal.fits-requires
 fits-requires c =
     let a = c.args in
-    let o = c.«open» in
+    let o = c.open-opened in
     let f = c.part-f in
     let q = opened a.book.now f.result.now o.result.answer o.result.v o.result.n o.result.p o.ensures c.if-first-ne-YES.false f.ensures in
     let m = c.pack-packed in
@@ -50,7 +50,7 @@ fits-requires c =
 pub returns-then-fits : goal.returns-then-fits
 returns-then-fits c =
     let a = c.args in
-    let o = c.«open» in
+    let o = c.open-opened in
     let f = c.part-f in
     let q = opened a.book.now f.result.now o.result.answer o.result.v o.result.n o.result.p o.ensures c.if-first-ne-YES.false f.ensures in
     let m = c.pack-packed in
@@ -61,7 +61,7 @@ returns-then-fits c =
 pub returns-else-fits : goal.returns-else-fits
 returns-else-fits c =
     let a = c.args in
-    let o = c.«open» in
+    let o = c.open-opened in
     let f = c.part-f in
     let q = opened a.book.now f.result.now o.result.answer o.result.v o.result.n o.result.p o.ensures c.if-first-ne-YES.false f.ensures in
     let m = c.pack-packed in

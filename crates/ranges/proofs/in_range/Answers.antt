@@ -14,7 +14,7 @@ returns-then-is_at_most-2 c =
     let a = c.args in
     let small : (i : ℕ) → get_or a.model.now i 0 < 256 = λ i. omega (arith, c.type_inv.model i) in
     answers_passed (upto (byte_checks a.v a.n a.model.now) (a.v + a.n)) Yes c.answer_of.result
-    (all_ok a.v a.n a.model.now small a.stack a.heap c.FIXME_pre
-    (c.is_at_most.ensures.to c.if-is_at_most.taken)
-    (c.is_at_most-then-is_at_most.ensures.to c.if-is_at_most-2.taken))
+    (all_ok a.v a.n a.model.now small a.stack a.heap c.requires
+    (c.is_at_most.ensures.to c.if-is_at_most.true)
+    (c.is_at_most-then-is_at_most.ensures.to c.if-is_at_most-2.true))
     c.answer_of.ensures

@@ -11,7 +11,7 @@ pub heap_on-requires : goal.heap_on-requires
 heap_on-requires c =
     let a = c.args in
     let z = c.requires in
-    (omega (arith, z.0.few_arrays, z.1), z.0.few_locs, omega (arith, c.byte_at.ensures.0, z.0.set-low a.s z.2), values_low a.g a.q.now a.arrays.now z.0 a.a z.1, z.0.unpacked.rows a.a (omega (arith, z.0.few_arrays, z.1)))
+    (omega (arith, z.0.few_arrays, z.1), z.0.few_locs, omega (arith, c.byte_at.ensures.0, z.0.set_low a.s z.2), values_low a.g a.q.now a.arrays.now z.0 a.a z.1, z.0.unpacked.rows a.a (omega (arith, z.0.few_arrays, z.1)))
 
 pub returns : goal.returns
 returns c =

@@ -23,5 +23,5 @@ pub returns : goal.returns
 returns c =
     let a = c.args in
     let z = c.requires in
-    is_apart_met a.g.profile a.g.v a.g.n _ _ _ _ _ _ _ _ _ (on_heap a.g.v a.g.n _ a.a a.s1 z.0.in_range)
+    is_apart_met a.g.profile a.g.v a.g.n _ _ _ _ _ _ _ _ _ (on_heap a.g.v a.g.n _ a.a a.s1 z.0.within_range)
     (subst (λ (s : Map). Barred a.g.profile a.g.v a.g.n s a.g.barred) z.0.stack z.0.barred) c.heap_at.ensures.0 c.heap_at-2.ensures.0 c.met-x.ensures c.met-y.ensures

@@ -12,20 +12,17 @@ use Rattle.terms.proofs.nil.Goals as goal
 pub returns-then-not-ends : goal.returns-then-not-ends
 returns-then-not-ends c =
     let a = c.args in
-    let r = c.rest-1.given in
-    let k : SpelledIs a.s.now (bytes "nil") a.at (At r.0.0) = subst (SpelledIs a.s.now (bytes "nil") a.at) r.1 c.spelled-rest.ensures in
-    nil_open a.s.now a.last a.at r.0.0 k (subst (EndsIs a.s.now a.last r.0.0) c.if-not-ends.true c.ends.ensures)
+    let k : SpelledIs a.s.now (bytes "nil") a.at (At c.in-At.e) = subst (SpelledIs a.s.now (bytes "nil") a.at) c.in-At.is c.spelled-rest.ensures in
+    nil_open a.s.now a.last a.at c.in-At.e k (subst (EndsIs a.s.now a.last c.in-At.e) c.if-not-ends.true c.ends.ensures)
 
 pub returns-else-not-ends : goal.returns-else-not-ends
 returns-else-not-ends c =
     let a = c.args in
-    let r = c.rest-1.given in
-    let k : SpelledIs a.s.now (bytes "nil") a.at (At r.0.0) = subst (SpelledIs a.s.now (bytes "nil") a.at) r.1 c.spelled-rest.ensures in
-    nil_found a.s.now a.last a.at r.0.0 k (subst (EndsIs a.s.now a.last r.0.0) c.if-not-ends.false c.ends.ensures)
+    let k : SpelledIs a.s.now (bytes "nil") a.at (At c.in-At.e) = subst (SpelledIs a.s.now (bytes "nil") a.at) c.in-At.is c.spelled-rest.ensures in
+    nil_found a.s.now a.last a.at c.in-At.e k (subst (EndsIs a.s.now a.last c.in-At.e) c.if-not-ends.false c.ends.ensures)
 
 pub returns-in-Bad : goal.returns-in-Bad
 returns-in-Bad c =
     let a = c.args in
-    let r = c.rest-in-Bad-1.given in
-    let k : SpelledIs a.s.now (bytes "nil") a.at (Bad r.0.0) = subst (SpelledIs a.s.now (bytes "nil") a.at) r.1 c.spelled-rest.ensures in
-    nil_missed a.s.now a.last a.at r.0.0 k
+    let k : SpelledIs a.s.now (bytes "nil") a.at (Bad c.in-Bad.p) = subst (SpelledIs a.s.now (bytes "nil") a.at) c.in-Bad.is c.spelled-rest.ensures in
+    nil_missed a.s.now a.last a.at c.in-Bad.p k

@@ -35,9 +35,8 @@ ended-requires c =
     let i : a.at < length a.s.now = c.if-s-at.false in
     let low : c.is_lower.result ≡ true = c.if-not-is_lower.false in
     let e : lower (get_or a.s.now a.at 0) ≡ true = sym c.is_lower.ensures ∙ low in
-    let r = c.begun-1.given in
-    let q : LettersIs a.s.now (get_or a.s.now a.at 0) (a.at + 1) (Reads r.0.0 r.0.1.0) =
-    subst (λ (w : ℕ). LettersIs a.s.now w (a.at + 1) (Reads r.0.0 r.0.1.0)) c.long.ensures (subst (LettersIs a.s.now c.long.result (a.at + 1)) r.1 c.letters-begun.ensures) in
+    let q : LettersIs a.s.now (get_or a.s.now a.at 0) (a.at + 1) (Reads c.in-Term.e c.in-Term.w) =
+    subst (λ (w : ℕ). LettersIs a.s.now w (a.at + 1) (Reads c.in-Term.e c.in-Term.w)) c.long.ensures (subst (LettersIs a.s.now c.long.result (a.at + 1)) c.in-Term.is c.letters-begun.ensures) in
     (q.1, q.2, q.3)
 
 pub returns-in-Term : goal.returns-in-Term
@@ -46,10 +45,9 @@ returns-in-Term c =
     let i : a.at < length a.s.now = c.if-s-at.false in
     let low : c.is_lower.result ≡ true = c.if-not-is_lower.false in
     let e : lower (get_or a.s.now a.at 0) ≡ true = sym c.is_lower.ensures ∙ low in
-    let r = c.begun-1.given in
-    let q : LettersIs a.s.now (get_or a.s.now a.at 0) (a.at + 1) (Reads r.0.0 r.0.1.0) =
-    subst (λ (w : ℕ). LettersIs a.s.now w (a.at + 1) (Reads r.0.0 r.0.1.0)) c.long.ensures (subst (LettersIs a.s.now c.long.result (a.at + 1)) r.1 c.letters-begun.ensures) in
-    term_ended a.s.now a.at i (c.requires.1 (get_or a.s.now a.at 0) (i, refl)) e a.last r.0.1.0 r.0.0 c.ended.result q c.ended.ensures
+    let q : LettersIs a.s.now (get_or a.s.now a.at 0) (a.at + 1) (Reads c.in-Term.e c.in-Term.w) =
+    subst (λ (w : ℕ). LettersIs a.s.now w (a.at + 1) (Reads c.in-Term.e c.in-Term.w)) c.long.ensures (subst (LettersIs a.s.now c.long.result (a.at + 1)) c.in-Term.is c.letters-begun.ensures) in
+    term_ended a.s.now a.at i (c.requires.1 (get_or a.s.now a.at 0) (i, refl)) e a.last c.in-Term.w c.in-Term.e c.ended.result q c.ended.ensures
 
 pub returns-in-Wrong : goal.returns-in-Wrong
 returns-in-Wrong c =
@@ -57,7 +55,6 @@ returns-in-Wrong c =
     let i : a.at < length a.s.now = c.if-s-at.false in
     let low : c.is_lower.result ≡ true = c.if-not-is_lower.false in
     let e : lower (get_or a.s.now a.at 0) ≡ true = sym c.is_lower.ensures ∙ low in
-    let r = c.begun-in-Wrong-1.given in
-    let q : LettersIs a.s.now (get_or a.s.now a.at 0) (a.at + 1) (Wrong r.0.0) =
-    subst (λ (w : ℕ). LettersIs a.s.now w (a.at + 1) (Wrong r.0.0)) c.long.ensures (subst (LettersIs a.s.now c.long.result (a.at + 1)) r.1 c.letters-begun.ensures) in
-    term_wrong a.s.now a.at i (c.requires.1 (get_or a.s.now a.at 0) (i, refl)) e a.last r.0.0 q
+    let q : LettersIs a.s.now (get_or a.s.now a.at 0) (a.at + 1) (Wrong c.in-Wrong.p) =
+    subst (λ (w : ℕ). LettersIs a.s.now w (a.at + 1) (Wrong c.in-Wrong.p)) c.long.ensures (subst (LettersIs a.s.now c.long.result (a.at + 1)) c.in-Wrong.is c.letters-begun.ensures) in
+    term_wrong a.s.now a.at i (c.requires.1 (get_or a.s.now a.at 0) (i, refl)) e a.last c.in-Wrong.p q

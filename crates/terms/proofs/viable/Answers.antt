@@ -10,4 +10,4 @@ pub returns-then-w-lt-EIGHT_LETTERS : goal.returns-then-w-lt-EIGHT_LETTERS
 returns-then-w-lt-EIGHT_LETTERS c = viable_short c.args.w c.if-w-lt-EIGHT_LETTERS.true
 
 pub returns : goal.returns
-returns c = ap not c.FIXME_is_is_word.ensures ∙ sym (viable_full c.args.w (omega arith) (omega arith))
+returns c = ap not c.is_word.ensures ∙ sym (viable_full c.args.w (omega arith) (omega arith))

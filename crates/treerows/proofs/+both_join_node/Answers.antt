@@ -94,6 +94,10 @@ pub join-overflow_add-new-in_default : goal.join-overflow_add-new-in_default
 join-overflow_add-new-in_default t c =
     omega (arith, (room_sept _ _ _ _ _ _ _ c.requires.7 (omega arith)).1, (room_sept _ _ _ _ _ _ _ c.requires.7 (omega arith)).2)
 
+pub join-overflow_add-new-in_default-2 : goal.join-overflow_add-new-in_default-2
+join-overflow_add-new-in_default-2 t c =
+    omega (arith, (room_sept _ _ _ _ _ _ _ c.requires.7 (omega arith)).1, (room_sept _ _ _ _ _ _ _ c.requires.7 (omega arith)).2)
+
 pub join-overflow_add-i-in_default : goal.join-overflow_add-i-in_default
 join-overflow_add-i-in_default t c =
     omega (arith, (room_sept _ _ _ _ _ _ _ c.requires.7 (omega arith)).1)

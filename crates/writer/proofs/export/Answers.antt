@@ -8,18 +8,18 @@ use Rattle.writer.proofs.export.Goals as goal
 pub returns-then-first-ne-YES : goal.returns-then-first-ne-YES
 returns-then-first-ne-YES c =
     let a = c.args in
-    let o = c.«open» in
+    let o = c.open-opened in
     read_refused a.book.now a.out.now o.result.answer o.ensures.answer c.if-first-ne-YES.true
 
 pub part-f-requires : goal.part-f-requires
 part-f-requires c =
-    let o = c.«open» in
+    let o = c.open-opened in
     read_given c.args.book.now o.result.answer 1 o.ensures.answer c.if-first-ne-YES.false (omega arith)
 
 pub text_length-requires : goal.text_length-requires
 text_length-requires c =
     let a = c.args in
-    let o = c.«open» in
+    let o = c.open-opened in
     let f = c.part-f.result.now in
     let q = opened a.book.now f o.result.answer o.result.v o.result.n o.result.p o.ensures c.if-first-ne-YES.false c.part-f.ensures in
     (o.result.v, known a.book.now f o.result.v o.result.n o.result.p q)
@@ -27,7 +27,7 @@ text_length-requires c =
 pub returns-then-out-text_length : goal.returns-then-out-text_length
 returns-then-out-text_length c =
     let a = c.args in
-    let o = c.«open» in
+    let o = c.open-opened in
     let f = c.part-f.result.now in
     let q = opened a.book.now f o.result.answer o.result.v o.result.n o.result.p o.ensures c.if-first-ne-YES.false c.part-f.ensures in
     too_short a.book.now a.out.now f o.result.v o.result.n o.result.p q _ (omega (arith, c.if-out-text_length.true, c.text_length.ensures)) c.answer_of.ensures
@@ -35,7 +35,7 @@ returns-then-out-text_length c =
 pub overflow_sub-f : goal.overflow_sub-f
 overflow_sub-f c =
     let a = c.args in
-    let o = c.«open» in
+    let o = c.open-opened in
     let f = c.part-f.result.now in
     let q = opened a.book.now f o.result.answer o.result.v o.result.n o.result.p o.ensures c.if-first-ne-YES.false c.part-f.ensures in
     omega (arith, (known a.book.now f o.result.v o.result.n o.result.p q).some)
@@ -43,7 +43,7 @@ overflow_sub-f c =
 pub put_node-end-requires : goal.put_node-end-requires
 put_node-end-requires c =
     let a = c.args in
-    let o = c.«open» in
+    let o = c.open-opened in
     let f = c.part-f.result.now in
     let q = opened a.book.now f o.result.answer o.result.v o.result.n o.result.p o.ensures c.if-first-ne-YES.false c.part-f.ensures in
     let w = known a.book.now f o.result.v o.result.n o.result.p q in
@@ -52,7 +52,7 @@ put_node-end-requires c =
 pub returns : goal.returns
 returns c =
     let a = c.args in
-    let o = c.«open» in
+    let o = c.open-opened in
     let f = c.part-f.result.now in
     let q = opened a.book.now f o.result.answer o.result.v o.result.n o.result.p o.ensures c.if-first-ne-YES.false c.part-f.ensures in
     exported a.book.now a.out.now f o.result.v o.result.n o.result.p q _ _ _ c.put_node-end.ensures c.answer_of-2.ensures
