@@ -12,7 +12,7 @@ pub placed-r-requires : goal.placed-r-requires
 placed-r-requires c =
     let a = c.args in
     let p : 0 < a.b = omega arith in
-    (omega (arith, mod-lt c.loop-i.false p), omega arith, omega arith)
+    (omega (arith, mod-lt c.loop-i.left p), omega arith, omega arith)
 
 pub loop-i-preserved : goal.loop-i-preserved
 loop-i-preserved c = unpacking_more _ _ _ _ _ _ _ c.loop-i.invariant c.loop-i-test.true c.placed-r.ensures

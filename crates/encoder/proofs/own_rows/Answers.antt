@@ -34,7 +34,7 @@ pub returns-in_default : goal.returns-in_default
 returns-in_default c =
     let a = c.args in
     let r = c.apart_rows-in_default.ensures in
-    let ten : a.op ≡ 10 = ⊎_elim (λ z. omega (arith, z.taken)) (λ z. omega (arith, z.2.left)) c.in_default.branch in
+    let ten : a.op ≡ 10 = omega arith in
     (ap (λ (k : ℕ). 5 + k) r.0 ∙ sym (own_sept a.profile a.n a.op ten), omega (arith, r.1))
 
 pub returns-in-5-to-6 : goal.returns-in-5-to-6

@@ -43,37 +43,36 @@ item-returns t c = let k = c.skip-from in item_empty _ _ _ _ k.result k.ensures 
 
 pub list-pair-requires : goal.list-pair-requires
 list-pair-requires t c =
-    let q = word_said c.args.s.now c.args.at c.said-1.given.1 c.word-said.ensures in
+    let q = word_said c.args.s.now c.args.at c.in-Word.is c.word-said.ensures in
     (omega (arith, q.1, q.2, c.decreases), (q.2, c.requires.1, c.if-w-lt4.true, c.requires.2))
 
 pub list-returns-then-w-lt4 : goal.list-returns-then-w-lt4
 list-returns-then-w-lt4 t c =
-    list_said c.args.s.now c.args.at c.said-1.given.1 c.word-said.ensures _ _ _ _ refl c.pair.ensures
+    list_said c.args.s.now c.args.at c.in-Word.is c.word-said.ensures _ _ _ _ refl c.pair.ensures
 
 pub list-single-requires : goal.list-single-requires
 list-single-requires t c =
-    let q = word_said c.args.s.now c.args.at c.said-1.given.1 c.word-said.ensures in
+    let q = word_said c.args.s.now c.args.at c.in-Word.is c.word-said.ensures in
     (omega (arith, q.1, q.2, c.decreases), (q.2, c.requires.1, c.requires.2))
 
 pub list-returns-then-w-eq4 : goal.list-returns-then-w-eq4
 list-returns-then-w-eq4 t c =
-    list_said c.args.s.now c.args.at c.said-1.given.1 c.word-said.ensures _ _ _ 4 c.if-w-eq4.true c.single.ensures
+    list_said c.args.s.now c.args.at c.in-Word.is c.word-said.ensures _ _ _ 4 c.if-w-eq4.true c.single.ensures
 
 pub list-relation-requires : goal.list-relation-requires
 list-relation-requires t c =
-    let q = word_said c.args.s.now c.args.at c.said-1.given.1 c.word-said.ensures in
+    let q = word_said c.args.s.now c.args.at c.in-Word.is c.word-said.ensures in
     (q.2, omega arith, q.0, c.requires.2)
 
 pub list-returns-else-w-eq4 : goal.list-returns-else-w-eq4
 list-returns-else-w-eq4 t c =
-    list_said c.args.s.now c.args.at c.said-1.given.1 c.word-said.ensures _ _ _ _ refl c.relation.ensures
+    list_said c.args.s.now c.args.at c.in-Word.is c.word-said.ensures _ _ _ _ refl c.relation.ensures
 
 pub list-returns-in-Nothing : goal.list-returns-in-Nothing
 list-returns-in-Nothing t c =
     let a = c.args in
-    let r = c.said-in-Nothing-1.given in
-    let q : WordIs a.s.now a.at (Nothing r.0.0) = subst (WordIs a.s.now a.at) r.1 c.word-said.ensures in
-    stops_at _ _ _ _ r.0.0 c.refused.ensures.0 c.refused.ensures.1 (λ σ e. q σ)
+    let q : WordIs a.s.now a.at (Nothing c.in-Nothing.p) = subst (WordIs a.s.now a.at) c.in-Nothing.is c.word-said.ensures in
+    stops_at _ _ _ _ c.in-Nothing.p c.refused.ensures.0 c.refused.ensures.1 (λ σ e. q σ)
 
 pub pair-item-first-requires : goal.pair-item-first-requires
 pair-item-first-requires t c = (omega (arith, c.decreases), (c.requires.0, omega arith, c.requires.3))

@@ -10,18 +10,15 @@ use Rattle.items.proofs.closed.Goals as goal
 pub finished-requires : goal.finished-requires
 finished-requires c =
     let a = c.args in
-    let r = c.end-1.given in
-    let k : ShutIs a.s.now a.at (At r.0.0) = subst (ShutIs a.s.now a.at) r.1 c.shut-end.ensures in
+    let k : ShutIs a.s.now a.at (At c.in-At.e) = subst (ShutIs a.s.now a.at) c.in-At.is c.shut-end.ensures in
     omega (arith, k.0)
 
 pub returns-in-At : goal.returns-in-At
 returns-in-At c =
     let a = c.args in
-    let r = c.end-1.given in
-    inl (r.0.0, subst (ShutIs a.s.now a.at) r.1 c.shut-end.ensures, c.finished.ensures)
+    inl (c.in-At.e, subst (ShutIs a.s.now a.at) c.in-At.is c.shut-end.ensures, c.finished.ensures)
 
 pub returns-in-Bad : goal.returns-in-Bad
 returns-in-Bad c =
     let a = c.args in
-    let r = c.end-in-Bad-1.given in
-    inr (r.0.0, subst (ShutIs a.s.now a.at) r.1 c.shut-end.ensures, c.refused.ensures.0, c.refused.ensures.1)
+    inr (c.in-Bad.p, subst (ShutIs a.s.now a.at) c.in-Bad.is c.shut-end.ensures, c.refused.ensures.0, c.refused.ensures.1)

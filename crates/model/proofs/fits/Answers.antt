@@ -17,4 +17,4 @@ returns c =
     let t = c.table_of-table in
     let u = c.barred-bar in
     let x = c.number in
-    core_fits a.profile x.result x.ensures a.v a.n a.p a.f.now t.result t.ensures a.stack a.heap u.result c.requires u.ensures c.FIXME_fits2.result c.FIXME_fits2.ensures
+    core_fits a.profile x.result x.ensures a.v a.n a.p a.f.now t.result t.ensures a.stack a.heap u.result c.requires u.ensures c.fits.result c.fits.ensures

@@ -56,7 +56,7 @@ returns-then-fits c =
     let m = c.pack-packed in
     let small : (i : ℕ) → get_or a.model.now i 0 < 256 = λ i. omega (arith, c.type_inv.model i) in
     judges_verdict a.profile a.book.now f.result.now a.model.now o.result.v o.result.n o.result.p q small (model_passes _ _ a.model.now m.result.answer m.ensures.answer c.if-second-ne-YES.false) m.result.stack m.result.heap (m.ensures.stack c.if-second-ne-YES.false) (m.ensures.heap c.if-second-ne-YES.false) c.answer_of.result
-    (inl (c.FIXME_fits2.ensures.to c.if-fits.true, c.answer_of.ensures))
+    (inl (c.fits.ensures.to c.if-fits.true, c.answer_of.ensures))
 
 pub returns-else-fits : goal.returns-else-fits
 returns-else-fits c =
@@ -67,4 +67,4 @@ returns-else-fits c =
     let m = c.pack-packed in
     let small : (i : ℕ) → get_or a.model.now i 0 < 256 = λ i. omega (arith, c.type_inv.model i) in
     judges_verdict a.profile a.book.now f.result.now a.model.now o.result.v o.result.n o.result.p q small (model_passes _ _ a.model.now m.result.answer m.ensures.answer c.if-second-ne-YES.false) m.result.stack m.result.heap (m.ensures.stack c.if-second-ne-YES.false) (m.ensures.heap c.if-second-ne-YES.false) c.answer_of-else-fits.result
-    (inr (fails c.FIXME_fits2.result c.FIXME_fits2.ensures c.if-fits.false, c.answer_of-else-fits.ensures))
+    (inr (fails c.fits.result c.fits.ensures c.if-fits.false, c.answer_of-else-fits.ensures))

@@ -15,30 +15,26 @@ pub returns-then-w-eq0 : goal.returns-then-w-eq0
 returns-then-w-eq0 c =
     let a = c.args in
     let k = c.skip-from in
-    let r = c.found-1.given in
-    let q : TermIs a.s.now a.last k.result (Reads r.0.0 r.0.1.0) = subst (TermIs a.s.now a.last k.result) r.1 c.term-found.ensures in
-    operand_nil a.s.now a.last a.at k.result (names a.letters.now a.names) k.ensures r.0.0 (subst (λ (w : ℕ). TermIs a.s.now a.last k.result (Reads r.0.0 w)) c.if-w-eq0.true q) c.requires.1
+    let q : TermIs a.s.now a.last k.result (Reads c.in-Term.e c.in-Term.w) = subst (TermIs a.s.now a.last k.result) c.in-Term.is c.term-found.ensures in
+    operand_nil a.s.now a.last a.at k.result (names a.letters.now a.names) k.ensures c.in-Term.e (subst (λ (w : ℕ). TermIs a.s.now a.last k.result (Reads c.in-Term.e w)) c.if-w-eq0.true q) c.requires.1
 
 pub returns-then-noted-eq0 : goal.returns-then-noted-eq0
 returns-then-noted-eq0 c =
     let a = c.args in
     let k = c.skip-from in
-    let r = c.found-1.given in
-    let q : TermIs a.s.now a.last k.result (Reads r.0.0 r.0.1.0) = subst (TermIs a.s.now a.last k.result) r.1 c.term-found.ensures in
-    operand_over a.s.now a.last a.at k.result (names a.letters.now a.names) k.ensures r.0.0 r.0.1.0 c.if-w-eq0.false q _ _ c.numbered-noted.ensures _ _ _ c.if-noted-eq0.true
+    let q : TermIs a.s.now a.last k.result (Reads c.in-Term.e c.in-Term.w) = subst (TermIs a.s.now a.last k.result) c.in-Term.is c.term-found.ensures in
+    operand_over a.s.now a.last a.at k.result (names a.letters.now a.names) k.ensures c.in-Term.e c.in-Term.w c.if-w-eq0.false q _ _ c.numbered-noted.ensures _ _ _ c.if-noted-eq0.true
 
 pub returns-else-noted-eq0 : goal.returns-else-noted-eq0
 returns-else-noted-eq0 c =
     let a = c.args in
     let k = c.skip-from in
-    let r = c.found-1.given in
-    let q : TermIs a.s.now a.last k.result (Reads r.0.0 r.0.1.0) = subst (TermIs a.s.now a.last k.result) r.1 c.term-found.ensures in
-    operand_name a.s.now a.last a.at k.result (names a.letters.now a.names) k.ensures r.0.0 r.0.1.0 c.if-w-eq0.false q _ _ c.numbered-noted.ensures _ c.if-noted-eq0.false
+    let q : TermIs a.s.now a.last k.result (Reads c.in-Term.e c.in-Term.w) = subst (TermIs a.s.now a.last k.result) c.in-Term.is c.term-found.ensures in
+    operand_name a.s.now a.last a.at k.result (names a.letters.now a.names) k.ensures c.in-Term.e c.in-Term.w c.if-w-eq0.false q _ _ c.numbered-noted.ensures _ c.if-noted-eq0.false
 
 pub returns-in-Wrong : goal.returns-in-Wrong
 returns-in-Wrong c =
     let a = c.args in
     let k = c.skip-from in
-    let r = c.found-in-Wrong-1.given in
-    let q : TermIs a.s.now a.last k.result (Wrong r.0.0) = subst (TermIs a.s.now a.last k.result) r.1 c.term-found.ensures in
-    operand_wrong a.s.now a.last a.at k.result (names a.letters.now a.names) k.ensures r.0.0 _ _ _ q
+    let q : TermIs a.s.now a.last k.result (Wrong c.in-Wrong.p) = subst (TermIs a.s.now a.last k.result) c.in-Wrong.is c.term-found.ensures in
+    operand_wrong a.s.now a.last a.at k.result (names a.letters.now a.names) k.ensures c.in-Wrong.p _ _ _ q

@@ -39,7 +39,7 @@ returns-then-fits c = let a = c.args in
     let q = c.requires.0 in
     let l = c.loop-i in
     let m = c.loop-i-test.true in
-    given_found _ _ _ _ _ _ _ l.invariant m q.inside (heap_fits a.f.now a.b.now a.k a.t.now a.u _ a.from a.to q l.i l.c l.invariant m (c.FIXME_fits2.ensures.to c.if-fits.true).1) _ c.found.ensures.0 c.found.ensures.1 c.found.ensures.2
+    given_found _ _ _ _ _ _ _ l.invariant m q.inside (heap_fits a.f.now a.b.now a.k a.t.now a.u _ a.from a.to q l.i l.c l.invariant m (c.fits.ensures.to c.if-fits.true).1) _ c.found.ensures.0 c.found.ensures.1 c.found.ensures.2
 
 pub go_on-c-requires : goal.go_on-c-requires
 go_on-c-requires c = c.loop-i.invariant.range
@@ -63,7 +63,7 @@ loop-i-preserved c = let a = c.args in
     let q = c.requires.0 in
     let l = c.loop-i in
     let m = c.loop-i-test.true in
-    heap_over a.f.now a.b.now a.k a.t.now a.u _ a.from a.to q l.i l.c l.invariant m c.level-j.result c.level-j.ensures _ c.FIXME_fits2.ensures c.if-fits.false _ c.go_on-c.ensures _ (c.number_after-i.ensures ∙ ap (λ (y : ℕ). after (weight (locs_of a.b.now) y) l.i) c.low.ensures)
+    heap_over a.f.now a.b.now a.k a.t.now a.u _ a.from a.to q l.i l.c l.invariant m c.level-j.result c.level-j.ensures _ c.fits.ensures c.if-fits.false _ c.go_on-c.ensures _ (c.number_after-i.ensures ∙ ap (λ (y : ℕ). after (weight (locs_of a.b.now) y) l.i) c.low.ensures)
 
 pub returns : goal.returns
 returns c = given_nothing _ _ _ _ _ (going_past _ _ _ _ _ _ _ c.loop-i.invariant c.loop-i-test.false) _ c.nothing.ensures
