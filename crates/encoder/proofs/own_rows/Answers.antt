@@ -5,6 +5,7 @@ use mathlib.Core.Logic.{⊎_elim}
 use Prim.Native.Nat.{ℕ, ◌+◌}
 use native.Mathlib.Omega.{arith}
 use Rattle.encoder.specs.EncodeLaws.{own_pair, own_ls, own_one, own_but, own_sep, own_sept}
+use Rattle.encoder.proofs.own_rows.Goals.{in_default-via-then-op-lt1, in_default-via-else-op-lt1+else-op-lt4+else-op-lt7}
 use Rattle.encoder.proofs.own_rows.Goals as goal
 
 pub overflow_add-result-in-9 : goal.overflow_add-result-in-9
@@ -34,7 +35,7 @@ pub returns-in_default : goal.returns-in_default
 returns-in_default c =
     let a = c.args in
     let r = c.apart_rows-in_default.ensures in
-    let ten : a.op ≡ 10 = omega arith in
+    let ten : a.op ≡ 10 = elim c.in_default.branch [ in_default-via-then-op-lt1 w ↦ omega arith | in_default-via-else-op-lt1+else-op-lt4+else-op-lt7 w ↦ omega arith ] in
     (ap (λ (k : ℕ). 5 + k) r.0 ∙ sym (own_sept a.profile a.n a.op ten), omega (arith, r.1))
 
 pub returns-in-5-to-6 : goal.returns-in-5-to-6

@@ -14,13 +14,13 @@ use Rattle.items.specs.ListLaws.{item_empty, item_list, item_deep, joins_are, wo
 use Rattle.items.proofs.+item_list_pair_single.Given as goal
 
 abbrev pub decreases-item : goal.decreases-item
-decreases-item l = 2 * (length a.1.1.0.now - l.at)
+decreases-item l = 2 * (length l.s.now - l.at)
 
 abbrev pub decreases-list : goal.decreases-list
-decreases-list l = 2 * (length a.1.1.0.now - l.at)
+decreases-list l = 2 * (length l.s.now - l.at)
 
 abbrev pub decreases-pair : goal.decreases-pair
-decreases-pair l = 2 * (length a.1.1.0.now - l.at) + 1
+decreases-pair l = 2 * (length l.s.now - l.at) + 1
 
 abbrev pub decreases-single : goal.decreases-single
-decreases-single l = 2 * (length a.1.1.0.now - l.at) + 1
+decreases-single l = 2 * (length l.s.now - l.at) + 1
