@@ -33,6 +33,7 @@ module _ (k : ℕ) (l : k ≤ most) where
   -- a name that is one too many here comes after one that was too many there, or is that one
   sooner : (lo : ℕ) (ns : List (List ℕ)) (es : List Event) (q : ℕ) → Sorted lo es → length ns ≤ k → NameOverAt most ns es q → Sooner ns es q
   unfolding Sorted
+  sooner lo ns [] q h f x = elim x [ ]
   sooner lo ns (named x i j ∷ es) q h f (one_over a b) = (i, one_over a (omega arith), omega arith)
   sooner lo ns (named x i j ∷ es) q h f (after_name r) = go (known ns x) refl (ℕ_discrete (length ns) k) (λ y. sooner j (note ns x) es q h.2 y r)
     where
