@@ -8,22 +8,25 @@ use Rattle.logic.specs.declared.Profile.{Profile}
 use Rattle.logic.specs.declared.Answer.{Answer}
 use Rattle.logic.specs.Numbers.{answer}
 use Rattle.logic.specs.Checks.{Checks, Passes, Answers}
-use Rattle.logic.specs.CheckLaws.{Yes, Refuses, passes_of_yes, answers_refused, answers_after, answers_other, answers_passed, refuses_upto}
+use Rattle.logic.specs.CheckLaws.{Yes, Refuses}
+use Rattle.logic.proofs.CheckLaws.{passes_of_yes, answers_refused, answers_after, answers_other, answers_passed, refuses_upto}
 use Rattle.logic.specs.Formula.{Form}
-use Rattle.logic.specs.Reflect.{Is, false_true, fails}
+use Rattle.logic.specs.Reflect.{Is}
+use Rattle.logic.proofs.Reflect.{false_true, fails}
 use Rattle.logic.specs.Tests.{pick}
 use Rattle.logic.specs.Table.{op_of, tree}
 use Rattle.logic.specs.Book.{book_formula, most, vars_of, locs_of, nodes, root, book_checks, Reads, Accepted, Known, Bodies}
-use Rattle.logic.specs.KnownLaws.{counted}
-use Rattle.logic.specs.OpenLaws.{vars_low, locs_low, known, formula_is}
+use Rattle.logic.proofs.KnownLaws.{counted}
+use Rattle.logic.proofs.OpenLaws.{vars_low, locs_low, known, formula_is}
 use Rattle.logic.specs.Model.{Verdict, stack_in}
 use Rattle.cells.specs.Cells.{cells, Barred}
 use Rattle.rows.specs.Meaning.{Short, Satisfies}
 use Rattle.rows.specs.Table.{arrays_in, sets_in, arrays, sets, table, Encodable}
-use Rattle.rows.specs.LastRow.{satisfies_condition}
+use Rattle.rows.proofs.LastRow.{satisfies_condition}
 use Rattle.rows.specs.Bounds.{most_arrays, own_arrays, own_sets}
-use Rattle.rows.specs.BoundsLaws.{arrays_add, sets_add}
-use Rattle.logic.specs.Weight.{sum, sum_same, sum_mul}
+use Rattle.rows.proofs.BoundsLaws.{arrays_add, sets_add}
+use Rattle.logic.specs.Weight.{sum}
+use Rattle.logic.proofs.Weight.{sum_same, sum_mul}
 use Rattle.rows.specs.Assigned.{assigned, value_checks, assignment_checks, SatisfiesBook, assign_rest, Assigns}
 use Rattle.encodable.specs.CountingLaws.{arrays_most}
 use Rattle.arrays.specs.Unpacked.{Unpacked}
@@ -31,7 +34,7 @@ use Rattle.rowjudge.specs.declared.Setting.{Setting}
 use Rattle.rowjudge.specs.declared.Told.{Told}
 use Rattle.rowjudge.specs.Setting.{Ready, Within, Judged}
 use Rattle.assign.specs.Judging.{Judging}
-use Rattle.solutions.specs.AssignedLaws.{assignment_long, set_low, assigned_in_range}
+use Rattle.solutions.proofs.AssignedLaws.{assignment_long, set_low, assigned_in_range}
 
 -- ---- how many arrays and sets there are
 

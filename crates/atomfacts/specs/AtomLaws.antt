@@ -12,13 +12,13 @@ use Rattle.logic.specs.Formula.{Form}
 use Rattle.logic.specs.Formula.Form.{same, diff, pts, ls}
 use Rattle.logic.specs.Tests.{andb, pickb, in_part}
 use Rattle.logic.specs.Table.{atom_of}
-use Rattle.logic.specs.Reflect.{is_not, is_eq}
+use Rattle.logic.proofs.Reflect.{is_not, is_eq}
 use Rattle.cells.specs.Sets.{in_and, in_xor, in_pow, in_all}
 use Rattle.skips.specs.Counts.{hit}
-use Rattle.skips.specs.CountLaws.{hit_is, hit_not}
+use Rattle.skips.proofs.CountLaws.{hit_is, hit_not}
 use Rattle.skips.specs.Facts.{Digits, Caps, Needs, May, PointsDigit, ListCell, ListDigit, cap_of_path}
-use Rattle.skips.specs.DigitRules.{hopeless, digits_more, digits_same, digits_diff, digits_pts, digits_ls}
-use Rattle.skips.specs.BoundRules.{caps_same, caps_diff, caps_pts, caps_ls, needs_same, needs_diff, needs_pts, needs_ls}
+use Rattle.skips.proofs.DigitRules.{hopeless, digits_more, digits_same, digits_diff, digits_pts, digits_ls}
+use Rattle.skips.proofs.BoundRules.{caps_same, caps_diff, caps_pts, caps_ls, needs_same, needs_diff, needs_pts, needs_ls}
 use Rattle.facts.specs.declared.Fact.{Fact}
 use Rattle.facts.specs.Known.{In, Small, Known}
 use Rattle.facts.specs.KnownLaws.{in_one, hopeless_known}

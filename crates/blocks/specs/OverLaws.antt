@@ -7,7 +7,7 @@ use Rattle.logic.specs.Heap.{Heap}
 use Rattle.logic.specs.Tests.{in_part, digit}
 use Rattle.cells.specs.Cells.{most, cells}
 use Rattle.cells.specs.Bits.{digit_is}
-use Rattle.skips.specs.HereLaws.{worse_here}
+use Rattle.skips.proofs.HereLaws.{worse_here}
 use Rattle.levels.specs.Levels.{Worse}
 use Rattle.rootfacts.specs.RootFacts.{digits_at}
 use Rattle.rootfacts.specs.RootLaws.{digit_goes, crowded_goes}

@@ -5,9 +5,9 @@ use Rattle.std.proofs.Math.Nat.{mod_self, pow-le-pow_left, pow-le-pow_right}
 use Rattle.std.proofs.Math.Decide.{dec_lt}
 use Rattle.std.proofs.Math.Arith.{digits_lt}
 use Rattle.logic.specs.Tests.{digit}
-use Rattle.logic.specs.Digits.{digit_num}
+use Rattle.logic.proofs.Digits.{digit_num}
 use Rattle.logic.specs.Candidates.{total, InBase, value_of}
-use Rattle.logic.specs.NumberLaws.{num_of_none}
+use Rattle.logic.proofs.NumberLaws.{num_of_none}
 use Rattle.cells.specs.Cells.{most, word, cells}
 use Rattle.cells.specs.Bits.{digit_zero}
 use Rattle.cells.specs.Packing.{cells_zero, same_cells}

@@ -7,12 +7,12 @@ use Rattle.std.proofs.Math.Decide.{dec_lt}
 use Rattle.std.proofs.Math.Arith.{digits_lt}
 use Rattle.logic.specs.Heap.{Stack, Heap}
 use Rattle.logic.specs.Candidates.{value_of, total}
-use Rattle.logic.specs.NumberLaws.{value_lt}
-use Rattle.logic.specs.CandidateLaws.{stack_in_base, in_base_stack, heap_in_base, in_base_heap}
+use Rattle.logic.proofs.NumberLaws.{value_lt}
+use Rattle.logic.proofs.CandidateLaws.{stack_in_base, in_base_stack, heap_in_base, in_base_heap}
 use Rattle.cells.specs.Cells.{word, cells}
 use Rattle.skips.specs.Blocks.{weight, after}
-use Rattle.skips.specs.BlockLaws.{weight_first, weight_heap, weight_stack}
-use Rattle.skips.specs.AfterLaws.{after_more, after_heap, after_stack, after_le, after_some}
+use Rattle.skips.proofs.BlockLaws.{weight_first, weight_heap, weight_stack}
+use Rattle.skips.proofs.AfterLaws.{after_more, after_heap, after_stack, after_le, after_some}
 use Rattle.candidates.specs.declared.Candidate.{Candidate}
 use Rattle.candidates.specs.Counter.{Bumps, WithinBounds, number, Next, Passes}
 use Rattle.candidates.specs.CounterLaws.{candidate, first_range, value_zero, zero_value, number_low, number_carried}

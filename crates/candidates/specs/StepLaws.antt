@@ -8,13 +8,13 @@ use Rattle.std.specs.Int.Bits.{bit_or, bit_xor}
 use Rattle.logic.specs.Heap.{Map}
 use Rattle.logic.specs.Tests.{pick, digit, without}
 use Rattle.logic.specs.Candidates.{InBase, value_of}
-use Rattle.logic.specs.NumberLaws.{num_of_changed, value_lt, digit_low as digit_below}
+use Rattle.logic.proofs.NumberLaws.{num_of_changed, value_lt, digit_low as digit_below}
 use Rattle.cells.specs.Cells.{cells, Placed}
 use Rattle.cells.specs.Heaps.{cut_is, put_at}
 use Rattle.cells.specs.Bits.{digit_zero, pow_bytes}
 use Rattle.skips.specs.Counts.{above}
-use Rattle.skips.specs.BlockLaws.{digit_shared}
-use Rattle.skips.specs.AfterLaws.{value_above}
+use Rattle.skips.proofs.BlockLaws.{digit_shared}
+use Rattle.skips.proofs.AfterLaws.{value_above}
 use Rattle.candidates.specs.Counter.{Carries, Cleared, Bumps}
 
 -- r is m with x at i+1

@@ -9,8 +9,8 @@ use Rattle.std.proofs.lemmas.Bool.{lt-leb}
 use Rattle.logic.specs.Heap.{Map, Stack, Heap}
 use Rattle.logic.specs.Tests.{pick}
 use Rattle.logic.specs.Candidates.{total, digits_of, stack_of, number_of}
-use Rattle.logic.specs.NumberLaws.{digits_at_is, digits_past, digits_nil, digits_in_base}
-use Rattle.logic.specs.CandidateLaws.{in_base_stack, in_base_heap, heap_of_digits, number_of_candidate}
+use Rattle.logic.proofs.NumberLaws.{digits_at_is, digits_past, digits_nil, digits_in_base}
+use Rattle.logic.proofs.CandidateLaws.{in_base_stack, in_base_heap, heap_of_digits, number_of_candidate}
 use Rattle.cells.specs.Cells.{most, cells, Placed}
 use Rattle.cells.specs.Bits.{digit_is}
 use Rattle.cells.specs.Packing.{cells_zero}

@@ -9,8 +9,9 @@ use Rattle.std.proofs.lemmas.Nat.{and_mask}
 use Rattle.logic.specs.Heap.{Map, Empty, Parts}
 use Rattle.logic.specs.Holds.{Points}
 use Rattle.logic.specs.Tests.{pick, in_part, part, rest, union, without}
-use Rattle.logic.specs.Reflect.{Is, false_true, is_iff, is_eq, same_of_not}
-use Rattle.logic.specs.Agree.{part_parts}
+use Rattle.logic.specs.Reflect.{Is}
+use Rattle.logic.proofs.Reflect.{false_true, is_iff, is_eq, same_of_not}
+use Rattle.logic.proofs.Agree.{part_parts}
 use Rattle.cells.specs.Cells.{word, cells, Placed, Spread}
 use Rattle.cells.specs.Packing.{cells_nil, cells_zero, cells_lt, same_cells, cells_and, cells_or, cells_xor}
 

@@ -5,10 +5,11 @@ use Rattle.std.specs.Int.Bits.{bit_xor}
 use Rattle.logic.specs.Heap.{Map, Heap, Empty}
 use Rattle.logic.specs.Holds.{Segment}
 use Rattle.logic.specs.Tests.{empty, without, chain}
-use Rattle.logic.specs.Reflect.{is_same, Is}
-use Rattle.logic.specs.Agree.{is_empty}
-use Rattle.logic.specs.Chains.{is_segment}
-use Rattle.logic.specs.Without.{without_heap}
+use Rattle.logic.specs.Reflect.{Is}
+use Rattle.logic.proofs.Reflect.{is_same}
+use Rattle.logic.proofs.Agree.{is_empty}
+use Rattle.logic.proofs.Chains.{is_segment}
+use Rattle.logic.proofs.Without.{without_heap}
 use Rattle.cells.specs.Cells.{most, cells, Placed}
 use Rattle.cells.specs.Loops.{Walk}
 use Rattle.cells.specs.Packing.{cells_nil}

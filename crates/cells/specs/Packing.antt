@@ -6,8 +6,8 @@ use Rattle.std.proofs.Math.Decide.{dec_lt, ℕ_discrete}
 use Rattle.std.proofs.Math.Arith.{digits_lt}
 use Rattle.std.specs.Int.Bits.{bit_and, bit_or, bit_xor}
 use Rattle.logic.specs.Tests.{andb, digit, pick, all, in_part}
-use Rattle.logic.specs.Digits.{digit_lt}
-use Rattle.logic.specs.Reflect.{is_all, is_self, is_eq, is_lt, is_and}
+use Rattle.logic.proofs.Digits.{digit_lt}
+use Rattle.logic.proofs.Reflect.{is_all, is_self, is_eq, is_lt, is_and}
 use Rattle.cells.specs.Cells.{most, full, word, cells, Placed, Spread}
 use Rattle.cells.specs.Sets.{in_past}
 use Rattle.cells.specs.Bits.{digit_zero, digit_past, same_digits, digit_is, digit_placed, pow_bytes, digit_and, digit_or, digit_xor}

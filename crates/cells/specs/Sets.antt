@@ -6,8 +6,9 @@ use Rattle.std.specs.Int.Bits.{bit_and, bit_or, bit_xor}
 use Rattle.std.proofs.lemmas.Nat.{and_le_l}
 use Rattle.std.proofs.lemmas.Bool.{eqb-false}
 use Rattle.logic.specs.Tests.{andb, orb, pick, pickb, digit, in_part}
-use Rattle.logic.specs.Digits.{digit_lt}
-use Rattle.logic.specs.Reflect.{Is, false_true, is_iff, is_eq}
+use Rattle.logic.proofs.Digits.{digit_lt}
+use Rattle.logic.specs.Reflect.{Is}
+use Rattle.logic.proofs.Reflect.{false_true, is_iff, is_eq}
 use Rattle.cells.specs.Bits.{digit_zero, digit_past, same_digits, digit_and, digit_or, digit_xor, digit_placed}
 
 two_pos : 0 < 2

@@ -8,9 +8,10 @@ use Rattle.std.specs.Int.Bits.{bit_and, bit_or}
 use Rattle.std.proofs.lemmas.Nat.{and_le_r, or_lt}
 use Rattle.logic.specs.Heap.{Heap, Value, Locs}
 use Rattle.logic.specs.Tests.{andb, orb, digit, in_part}
-use Rattle.logic.specs.Digits.{digit_lt}
-use Rattle.logic.specs.Reflect.{Is, false_true, is_iff, is_self, is_eq, is_and, is_or}
-use Rattle.logic.specs.Agree.{is_allocated}
+use Rattle.logic.proofs.Digits.{digit_lt}
+use Rattle.logic.specs.Reflect.{Is}
+use Rattle.logic.proofs.Reflect.{false_true, is_iff, is_self, is_eq, is_and, is_or}
+use Rattle.logic.proofs.Agree.{is_allocated}
 use Rattle.cells.specs.Cells.{most, full, cells, Taken, Values, Met, Source, Target}
 use Rattle.cells.specs.Loops.{Noted, Noting, NoSource}
 use Rattle.cells.specs.Bits.{digit_is}

@@ -12,8 +12,9 @@ use Rattle.std.proofs.lemmas.Nat.{and_le_r, or_shr}
 use Rattle.logic.specs.declared.Profile.{Profile}
 use Rattle.logic.specs.Heap.{Map, Heap, Locs, Disjoint}
 use Rattle.logic.specs.Tests.{andb, orb, pick, digit, in_part, part, rest, may_meet}
-use Rattle.logic.specs.Reflect.{Is, false_true, is_iff, is_self, is_eq, is_and, is_or, decided}
-use Rattle.logic.specs.Agree.{locs_low, is_may_meet}
+use Rattle.logic.specs.Reflect.{Is}
+use Rattle.logic.proofs.Reflect.{false_true, is_iff, is_self, is_eq, is_and, is_or, decided}
+use Rattle.logic.proofs.Agree.{locs_low, is_may_meet}
 use Rattle.cells.specs.Cells.{most, full, word, cells, Placed, Spread, Barred, Touches, Touched, Tabled, Among, Folded, Clear}
 use Rattle.cells.specs.Loops.{Tabling}
 use Rattle.cells.specs.Bits.{digit_shr}

@@ -10,8 +10,9 @@ use Rattle.std.specs.Int.Bits.{bit_and, and_zero_r}
 use Rattle.std.proofs.lemmas.Nat.{and_le_r}
 use Rattle.logic.specs.Heap.{Heap}
 use Rattle.logic.specs.Tests.{pick, all, digit, in_part, allocated}
-use Rattle.logic.specs.Digits.{num_of, num_of_lt, digit_num}
-use Rattle.logic.specs.Reflect.{is_eq, is_all}
+use Rattle.logic.specs.Digits.{num_of}
+use Rattle.logic.proofs.Digits.{num_of_lt, digit_num}
+use Rattle.logic.proofs.Reflect.{is_eq, is_all}
 use Rattle.cells.specs.Cells.{most, full, word, cells, Taken}
 use Rattle.cells.specs.Bits.{digit_past, digit_and, digit_sum, sum_lt}
 use Rattle.cells.specs.Sets.{in_nil, in_past, bit_of_is}

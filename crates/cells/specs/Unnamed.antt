@@ -9,7 +9,8 @@ use Rattle.std.proofs.lemmas.Bool.{lt-leb}
 use Rattle.logic.specs.declared.Profile.TheVariants.{Strong, Ordinary}
 use Rattle.logic.specs.Heap.{Map, Named}
 use Rattle.logic.specs.Tests.{pick, pickb, in_part}
-use Rattle.logic.specs.Reflect.{Is, false_true, is_iff, is_self, is_eq, is_or, is_not}
+use Rattle.logic.specs.Reflect.{Is}
+use Rattle.logic.proofs.Reflect.{false_true, is_iff, is_self, is_eq, is_or, is_not}
 use Rattle.cells.specs.Cells.{most, full, cells, Barred}
 use Rattle.cells.specs.Loops.{LocationOf, Naming}
 use Rattle.cells.specs.Sets.{in_nil, in_or, in_xor, in_pow, in_nothing, in_past, in_all, in_half}

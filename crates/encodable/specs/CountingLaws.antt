@@ -4,10 +4,10 @@ use Rattle.std.proofs.Common.{zero-le}
 use Rattle.logic.specs.declared.Profile.{Profile}
 use Rattle.logic.specs.Table.{tree}
 use Rattle.logic.specs.Book.{most, nodes, root, Known}
-use Rattle.logic.specs.KnownLaws.{last_node}
+use Rattle.logic.proofs.KnownLaws.{last_node}
 use Rattle.rows.specs.Table.{rows_in, arrays, sets}
 use Rattle.rows.specs.Bounds.{most_rows, most_arrays, most_sets}
-use Rattle.rows.specs.BoundsLaws as trees
+use Rattle.rows.proofs.BoundsLaws as trees
 
 module _ (v : ℕ) (f : List ℕ) (w : Known v f) where
   -- with LONG and its AND

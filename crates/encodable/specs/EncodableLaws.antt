@@ -3,12 +3,13 @@ use Rattle.std.specs.Prelude.{◌≡◌, refl, Bool, true, false, List, ◌↔�
 use Rattle.std.proofs.Math.Decide.{ℕ_discrete}
 use Rattle.std.proofs.Common.{arith}
 use Rattle.logic.specs.Formula.{Form}
-use Rattle.logic.specs.Reflect.{Is, is_iff, false_true, fails}
+use Rattle.logic.specs.Reflect.{Is}
+use Rattle.logic.proofs.Reflect.{is_iff, false_true, fails}
 use Rattle.logic.specs.Table.{op_of, operand_of, atom_of, join_of, join_from5, tree}
 use Rattle.logic.specs.Book.{nodes, Known}
 use Rattle.rows.specs.Table.{Flat, Encodable}
-use Rattle.logic.specs.Operators.{each_atom, each_join}
-use Rattle.logic.specs.KnownLaws.{operator_some, atom_tree, join_tree}
+use Rattle.logic.proofs.Operators.{each_atom, each_join}
+use Rattle.logic.proofs.KnownLaws.{operator_some, atom_tree, join_tree}
 
 is_yes : {P : Type 0} → P → Is true P
 is_yes p = record { to = λ e. p; from = λ q. refl }

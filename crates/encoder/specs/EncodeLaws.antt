@@ -9,23 +9,25 @@ use Rattle.logic.specs.declared.Profile.{Profile}
 use Rattle.logic.specs.declared.Answer.{Answer}
 use Rattle.logic.specs.Numbers.{answer}
 use Rattle.logic.specs.Checks.{◌then◌, Answers}
-use Rattle.logic.specs.CheckLaws.{Yes, answers_refused, answers_after}
-use Rattle.logic.specs.Reflect.{Is, fails}
+use Rattle.logic.specs.CheckLaws.{Yes}
+use Rattle.logic.proofs.CheckLaws.{answers_refused, answers_after}
+use Rattle.logic.specs.Reflect.{Is}
+use Rattle.logic.proofs.Reflect.{fails}
 use Rattle.logic.specs.Formula.{Form}
 use Rattle.logic.specs.Table.{op_of, tree}
 use Rattle.logic.specs.Weight.{sum}
 use Rattle.logic.specs.Book.{head_of, nodes, root, book_formula, locs_of, book_checks, Reads, Accepted, Known, Bodies}
-use Rattle.logic.specs.KnownLaws.{counted}
-use Rattle.logic.specs.OpenLaws.{locs_low, known, formula_is}
+use Rattle.logic.proofs.KnownLaws.{counted}
+use Rattle.logic.proofs.OpenLaws.{locs_low, known, formula_is}
 use Rattle.rows.specs.declared.Next.{Next}
 use Rattle.rows.specs.Row.{bytes_of}
 use Rattle.rows.specs.Row.Row.{LONG}
 use Rattle.rows.specs.Table.{Encodable, start, also, apart_row_count, rows_in, rows_of, table}
-use Rattle.rows.specs.TableLaws.{rows_long, table_long}
+use Rattle.rows.proofs.TableLaws.{rows_long, table_long}
 use Rattle.rows.specs.Bounds.{most_rows, own_row_count}
-use Rattle.rows.specs.BoundsLaws.{rows_add}
+use Rattle.rows.proofs.BoundsLaws.{rows_add}
 use Rattle.rows.specs.Output.{out_book, encoding_of, encode_rest, Encodes}
-use Rattle.rows.specs.OutputLaws.{encoding_long}
+use Rattle.rows.proofs.OutputLaws.{encoding_long}
 use Rattle.encodable.specs.CountingLaws.{rows_most, arrays_most, sets_most}
 use Rattle.rowbytes.specs.Written.{put, Puts}
 use Rattle.rowbytes.specs.WrittenLaws.{row_after, puts_as, space_less, rows_rows}

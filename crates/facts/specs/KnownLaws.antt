@@ -9,14 +9,14 @@ use Rattle.logic.specs.Heap.{Map}
 use Rattle.logic.specs.Formula.{Form}
 use Rattle.logic.specs.Formula.Form.{conj, disj, sep, sept}
 use Rattle.logic.specs.Tests.{in_part, digit}
-use Rattle.logic.specs.Reflect.{is_self, is_and, is_or, false_true}
+use Rattle.logic.proofs.Reflect.{is_self, is_and, is_or, false_true}
 use Rattle.cells.specs.Cells.{most, word}
 use Rattle.cells.specs.Sets.{in_and, in_or, in_nothing, in_all}
 use Rattle.skips.specs.Counts.{smaller, larger}
-use Rattle.skips.specs.CountLaws.{smaller_is, larger_is}
+use Rattle.skips.proofs.CountLaws.{smaller_is, larger_is}
 use Rattle.skips.specs.Facts.{Hopeless, Caps, Needs, AnyDigit, SepDigit, SeptDigit}
-use Rattle.skips.specs.DigitRules.{hopeless, digits_hopeless, digits_more, digits_any, digits_conj, digits_disj, digits_first, digits_second, digits_sep, digits_sept}
-use Rattle.skips.specs.BoundRules.{caps_hopeless, needs_hopeless, caps_more, caps_any, caps_conj, caps_disj, caps_sep, caps_sept, caps_first, caps_second, needs_more, needs_any, needs_conj, needs_disj, needs_sep, needs_sept, needs_first, needs_second}
+use Rattle.skips.proofs.DigitRules.{hopeless, digits_hopeless, digits_more, digits_any, digits_conj, digits_disj, digits_first, digits_second, digits_sep, digits_sept}
+use Rattle.skips.proofs.BoundRules.{caps_hopeless, needs_hopeless, caps_more, caps_any, caps_conj, caps_disj, caps_sep, caps_sept, caps_first, caps_second, needs_more, needs_any, needs_conj, needs_disj, needs_sep, needs_sept, needs_first, needs_second}
 use Rattle.facts.specs.declared.Fact.{Fact}
 use Rattle.facts.specs.Known.{In, Small, Known, JoinedAs, AnyAs, Together, Kept}
 

@@ -5,8 +5,8 @@ use Rattle.logic.specs.Heap.{Map}
 use Rattle.logic.specs.Formula.{Form}
 use Rattle.logic.specs.Formula.Form.{conj, disj, but, sep, sept}
 use Rattle.logic.specs.Table.{join_of, join_from5}
-use Rattle.skips.specs.DigitRules.{digits_but}
-use Rattle.skips.specs.BoundRules.{caps_but, needs_but}
+use Rattle.skips.proofs.DigitRules.{digits_but}
+use Rattle.skips.proofs.BoundRules.{caps_but, needs_but}
 use Rattle.facts.specs.declared.Fact.{Fact}
 use Rattle.facts.specs.Known.{In, Known, JoinedAs}
 

@@ -6,13 +6,10 @@ pub mod Meaning
 pub mod Import
 pub mod Machine
 pub mod Outcome
-pub mod Spellings
 pub mod Traces
 pub mod Steps
 pub mod Forward
 pub mod Begun
-pub mod Awaits
-pub mod Back
 pub mod Finish
 pub mod Halts
 pub mod PlaceLaws
@@ -20,13 +17,8 @@ pub mod Sorted
 pub mod LowestLaws
 pub mod Verdicts
 pub mod ListingLaws
-pub mod FormulaLaws
-pub mod TreeLaws
-pub mod MeaningLaws
 pub mod NumberLaws
 pub mod Says
 pub mod SaysLaws
-pub mod BookOfLaws
-pub mod ImportLaws
 pub mod ProfileExample
 pub mod Examples

@@ -5,10 +5,10 @@ use Rattle.logic.specs.declared.Answer.{Answer}
 use Rattle.logic.specs.Numbers.{yes_number, no_number, spent_number}
 use Rattle.logic.specs.Candidates.{total, model_bytes, model_of}
 use Rattle.logic.specs.Search.{searched, Outcome}
-use Rattle.logic.specs.SearchLaws.{outcome_found, outcome_none, outcome_spent}
+use Rattle.logic.proofs.SearchLaws.{outcome_found, outcome_none, outcome_spent}
 use Rattle.cells.specs.Cells.{cells}
 use Rattle.candidates.specs.declared.Candidate.{Candidate}
-use Rattle.skips.specs.RangeLaws.{none_below}
+use Rattle.skips.proofs.RangeLaws.{none_below}
 use Rattle.sweep.specs.declared.Stretch.{Stretch}
 use Rattle.sweep.specs.Sweep.{At, Given}
 use Rattle.sweep.specs.SweepLaws.{at_stack, at_heap, piece_fit, piece_passed}

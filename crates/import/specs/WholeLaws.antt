@@ -6,18 +6,19 @@ use mathlib.Core.List.{List, [], ◌++◌, append_assoc}
 use Rattle.std.proofs.Math.Nat.{zero-add}
 use Rattle.std.proofs.Math.ListN.{length, drop, length-append}
 use Rattle.std.proofs.Math.Seq.{paste, drop-append-add}
-use Rattle.grammar.specs.Steps.{onward, looks, ended, skip_over}
+use Rattle.grammar.proofs.Steps.{onward, looks, ended, skip_over}
 use Rattle.logic.specs.declared.Answer.{Answer}
 use Rattle.logic.specs.Numbers.{answer, yes_number, bounds, output_length, bad_text}
 use Rattle.logic.specs.Book.{most, head_of}
 use Rattle.grammar.specs.Machine.{item, step, bad, alive, ending, over}
 use Rattle.grammar.specs.Outcome.{outcome}
-use Rattle.grammar.specs.Verdicts.{Taken, Settled, settled}
+use Rattle.grammar.specs.Verdicts.{Taken, Settled}
+use Rattle.grammar.proofs.Verdicts.{settled}
 use Rattle.grammar.specs.Listing.{size_of, listing, book_of}
-use Rattle.grammar.specs.ListingLaws.{listing_long}
+use Rattle.grammar.proofs.ListingLaws.{listing_long}
 use Rattle.grammar.specs.Meaning.{names_of, number_of, form_of, meaning, book_for}
 use Rattle.grammar.specs.Import.{Good, Imports}
-use Rattle.grammar.specs.ImportLaws.{imports_bounds, imports_refused, imports_short, imports_written}
+use Rattle.grammar.proofs.ImportLaws.{imports_bounds, imports_refused, imports_short, imports_written}
 use Rattle.words.specs.Words.{Skipped}
 use Rattle.names.specs.Names.{held}
 use Rattle.names.specs.NameLaws.{names_long}

@@ -4,18 +4,20 @@ use Rattle.std.proofs.Common.{sym, ◌∙◌, subst, add-one, arith}
 use Rattle.std.proofs.Math.Path.{ap, ap₂}
 use mathlib.Core.List.{List, [], ◌∷◌, ◌++◌, append-nil, append_assoc}
 use Rattle.std.proofs.lemmas.Bool.{lt-leb}
-use Rattle.grammar.specs.NumberLaws.{More, TermIn, more_collect, all_in, form_more, more_term, term_note, number_more}
+use Rattle.grammar.specs.NumberLaws.{More, TermIn}
+use Rattle.grammar.proofs.NumberLaws.{more_collect, all_in, form_more, more_term, term_note, number_more}
 use Rattle.logic.specs.Numbers.{bad_text}
 use Rattle.logic.specs.Formula.{Form}
 use Rattle.grammar.specs.Phrase.{Join, Atom, Word, joins, denies, relates, join, deny, relate}
 use Rattle.grammar.specs.Phrase.Join.{and_word, or_word, sep_word, wand_word}
 use Rattle.grammar.specs.Grammar.{adds, deepest, Byte}
 use Rattle.grammar.specs.Machine.{Frame, only_one, first_of, second_of, start, later, item, head, arg, shut, step as next, alive}
-use Rattle.grammar.specs.Steps.{onward, looks, skip_item, waits}
-use Rattle.grammar.specs.Forward.{run_open}
+use Rattle.grammar.specs.Steps.{waits}
+use Rattle.grammar.proofs.Steps.{onward, looks, skip_item}
+use Rattle.grammar.proofs.Forward.{run_open}
 use Rattle.grammar.specs.Listing.{size_of, listing}
 use Rattle.grammar.specs.Meaning.{collect, note_term, number_of, join_form, atom_form, form_of}
-use Rattle.grammar.specs.MeaningLaws.{join_size, atom_size}
+use Rattle.grammar.proofs.MeaningLaws.{join_size, atom_size}
 use Rattle.grammar.specs.Outcome.{outcome}
 use Rattle.words.specs.Words.{word_of, Skipped, WordIs}
 use Rattle.words.specs.declared.Said.{Said}

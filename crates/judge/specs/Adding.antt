@@ -8,8 +8,9 @@ use Rattle.std.specs.Int.Bits.{bit_or}
 use Rattle.logic.specs.declared.Profile.{Profile}
 use Rattle.logic.specs.Heap.{Map, Heap, Disjoint}
 use Rattle.logic.specs.Tests.{andb, any, in_part, union, sept_at}
-use Rattle.logic.specs.Reflect.{is_same, Is, false_true, is_iff, is_self, is_and, same_of_not}
-use Rattle.logic.specs.Agree.{union_heap, union_parts, union_is, is_sept}
+use Rattle.logic.specs.Reflect.{Is}
+use Rattle.logic.proofs.Reflect.{is_same, false_true, is_iff, is_self, is_and, same_of_not}
+use Rattle.logic.proofs.Agree.{union_heap, union_parts, union_is, is_sept}
 use Rattle.cells.specs.Cells.{cells, Placed, Barred, Touches, Met, Source, SourceBelow, Target}
 use Rattle.cells.specs.Packing.{cells_zero}
 use Rattle.cells.specs.Heaps.{put_at, or_union}

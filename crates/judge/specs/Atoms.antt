@@ -6,11 +6,12 @@ use Rattle.logic.specs.Heap.{Map, Heap, Empty}
 use Rattle.logic.specs.Formula.{Form}
 use Rattle.logic.specs.Holds.{Points, Segment, Holds}
 use Rattle.logic.specs.Table.{op_of, operand_of, atom_of, tree}
-use Rattle.logic.specs.TruthHolds.{truth_holds}
-use Rattle.logic.specs.Reflect.{is_same, Is, false_true, is_iff}
+use Rattle.logic.proofs.TruthHolds.{truth_holds}
+use Rattle.logic.specs.Reflect.{Is}
+use Rattle.logic.proofs.Reflect.{is_same, false_true, is_iff}
 use Rattle.cells.specs.Cells.{most}
 use Rattle.judge.specs.Setting.{vars_of, locs_of, profile_of, stack_of, Ready, truth_at}
-use Rattle.logic.specs.NodeLaws.{atom_operands, tree_atom}
+use Rattle.logic.proofs.NodeLaws.{atom_operands, tree_atom}
 
 module _ (f b : List ℕ) (k : ℕ) (rd : Ready f b k) (l : op_of f k ≤ 4) where
   pub variables : (operand_of f k 0 ≤ most) × (operand_of f k 1 ≤ most)

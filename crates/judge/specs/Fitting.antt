@@ -4,8 +4,9 @@ use Rattle.logic.specs.Heap.{Map, Heap}
 use Rattle.logic.specs.Paths.{NoLongPath}
 use Rattle.logic.specs.Holds.{Holds}
 use Rattle.logic.specs.Table.{tree}
-use Rattle.logic.specs.TruthHolds.{truth_holds}
-use Rattle.logic.specs.Reflect.{Is, false_true, fails}
+use Rattle.logic.proofs.TruthHolds.{truth_holds}
+use Rattle.logic.specs.Reflect.{Is}
+use Rattle.logic.proofs.Reflect.{false_true, fails}
 use Rattle.logic.specs.Model.{Fits}
 use Rattle.judge.specs.Setting.{vars_of, locs_of, path_of, profile_of, stack_of, Ready, truth_at}
 

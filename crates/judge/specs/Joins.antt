@@ -7,7 +7,7 @@ use Rattle.logic.specs.Tests.{andb, orb, any, sep_at, sept_at}
 use Rattle.logic.specs.Truth.{truth}
 use Rattle.logic.specs.Table.{op_of, operand_of, join_of, join_from5, tree}
 use Rattle.judge.specs.Setting.{vars_of, locs_of, profile_of, stack_of, Ready, Joined, truth_of, truth_at, first_at, second_at}
-use Rattle.logic.specs.NodeLaws.{child_operands, tree_join}
+use Rattle.logic.proofs.NodeLaws.{child_operands, tree_join}
 
 -- a node's operator is 1 to 10
 pub operator_low : (f b : List ℕ) (k : ℕ) → Ready f b k → ¬ (op_of f k < 1)

@@ -10,8 +10,9 @@ use Rattle.std.proofs.lemmas.Nat.{and_le_r}
 use Rattle.logic.specs.declared.Profile.{Profile}
 use Rattle.logic.specs.Heap.{Map, Heap}
 use Rattle.logic.specs.Tests.{andb, orb, any, in_part, allocated, within, apart, sep_at}
-use Rattle.logic.specs.Reflect.{is_same, Is, false_true, is_self, is_all, is_any}
-use Rattle.logic.specs.Agree.{is_apart, first_heap, second_heap}
+use Rattle.logic.specs.Reflect.{Is}
+use Rattle.logic.proofs.Reflect.{is_same, false_true, is_self, is_all, is_any}
+use Rattle.logic.proofs.Agree.{is_apart, first_heap, second_heap}
 use Rattle.cells.specs.Cells.{most, full, cells, Sub, Spread, Taken, Barred, Tabled, Clear}
 use Rattle.cells.specs.Sets.{in_and, in_past, same_set, set_small}
 use Rattle.cells.specs.Subsets.{and_sub}

@@ -11,7 +11,7 @@ use Rattle.cells.specs.Cells.{most, word, cells, Placed}
 use Rattle.cells.specs.Heaps.{put_at}
 use Rattle.cells.specs.Packing.{cells_zero, cells_past}
 use Rattle.laws.specs.Exchange.{exchange, exchanged_heap}
-use Rattle.laws.specs.ExchangeLaws.{exchange_first, exchange_second, exchange_other}
+use Rattle.laws.proofs.ExchangeLaws.{exchange_first, exchange_second, exchange_other}
 use Rattle.levels.specs.Levels.{Swapped}
 
 pub exchanged_first : (a l : ℕ) → l ≡ a → a + 1 ≡ exchange a (suc a) l

@@ -4,8 +4,8 @@ use Rattle.std.proofs.Common.{sym, subst, subst₂, ◌∙◌, ap, div-lt_iff_lt
 use Rattle.std.proofs.Math.Nat.{one-le-pow}
 use Rattle.logic.specs.Tests.{digit}
 use Rattle.logic.specs.Digits.{num_of}
-use Rattle.logic.specs.NumberLaws.{num_of_same, num_of_digits}
-use Rattle.logic.specs.Reflect.{false_true}
+use Rattle.logic.proofs.NumberLaws.{num_of_same, num_of_digits}
+use Rattle.logic.proofs.Reflect.{false_true}
 use Rattle.cells.specs.Cells.{most, word, cells}
 use Rattle.cells.specs.Bits.{digit_shr, pow_bytes}
 use Rattle.laws.specs.Exchange.{exchanged_heap}

@@ -4,15 +4,16 @@ use Rattle.std.proofs.Common.{sym, subst, arith}
 use Rattle.logic.specs.declared.Profile.{Profile}
 use Rattle.logic.specs.declared.Answer.{Answer}
 use Rattle.logic.specs.Checks.{Checks, ◌then◌, Passes, Answers}
-use Rattle.logic.specs.CheckLaws.{Yes, passes_of_yes, passes_then, answers_refused, answers_after, answers_other, answers_passed}
+use Rattle.logic.specs.CheckLaws.{Yes}
+use Rattle.logic.proofs.CheckLaws.{passes_of_yes, passes_then, answers_refused, answers_after, answers_other, answers_passed}
 use Rattle.logic.specs.Heap.{Stack, Heap}
 use Rattle.logic.specs.Reflect.{Is}
 use Rattle.logic.specs.Formula.{Form}
 use Rattle.logic.specs.Table.{Sound, tree}
 use Rattle.logic.specs.Book.{nodes, root, book_checks, vars_of, locs_of, Reads, Accepted, Bodies}
-use Rattle.logic.specs.OpenLaws.{vars_low, locs_low, known}
+use Rattle.logic.proofs.OpenLaws.{vars_low, locs_low, known}
 use Rattle.logic.specs.Model.{model_checks, Fits, FitsBook, Verdict, Judges}
-use Rattle.logic.specs.ModelLaws.{model_stack, model_heap_is, model_refuses}
+use Rattle.logic.proofs.ModelLaws.{model_stack, model_heap_is, model_refuses}
 use Rattle.cells.specs.Cells.{cells, Barred}
 use Rattle.judge.specs.Setting.{profile_from, Ready}
 use Rattle.packing.specs.Packing.{packed_from}

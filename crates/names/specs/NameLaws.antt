@@ -7,17 +7,17 @@ use Prim.Native.Nat.{ℕ, suc, ◌+◌, ◌≤◌, ◌<◌}
 use Rattle.std.proofs.lemmas.List.{length-map}
 use Rattle.std.proofs.Math.ListN.{get_or-map}
 use borrow.Author.Tests.{eqb-true, eq-eqb, ne_eqb, lt-ltb, le-ltb}
-use Rattle.grammar.specs.Steps.{onward, skip_arg}
+use Rattle.grammar.proofs.Steps.{onward, skip_arg}
 use Rattle.logic.specs.Numbers.{bad_text, many_names}
 use Rattle.logic.specs.Book.{most}
 use Rattle.logic.specs.Tests.{andb}
-use Rattle.logic.specs.Reflect.{false_true}
+use Rattle.logic.proofs.Reflect.{false_true}
 use Rattle.grammar.specs.Phrase.{Term, nil_term, name_term, choose}
 use Rattle.grammar.specs.Grammar.{seen}
 use Rattle.grammar.specs.Machine.{Frame, Spot, arg, termed, emits}
 use Rattle.grammar.specs.Places.{known, note}
 use Rattle.grammar.specs.Meaning.{position}
-use Rattle.grammar.specs.NumberLaws.{known_place, position_new}
+use Rattle.grammar.proofs.NumberLaws.{known_place, position_new}
 use Rattle.grammar.specs.Outcome.{Outcome, outcome, refused}
 use Rattle.words.specs.Words.{Skipped}
 use Rattle.terms.specs.Letters.{letters_of, term_of}

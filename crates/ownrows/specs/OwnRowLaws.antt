@@ -14,9 +14,9 @@ use Rattle.rows.specs.declared.Next.{Next}
 use Rattle.rows.specs.Row.{Row, plain, fields_of, ten_bytes, bytes_of}
 use Rattle.rows.specs.Row.Row.{EQ, NE, EMPTY, ONE, AT, CHAIN, AND, OR, SPLIT, APART, SAME, LONG}
 use Rattle.rows.specs.Table.{arrays_in, sets_in, chains, ors, so_far, also, also_apart, apart_row_count, sep_rows, sept_rows, rows_in, rows_of}
-use Rattle.rows.specs.TableLaws.{chains_long, ors_long, apart_long}
+use Rattle.rows.proofs.TableLaws.{chains_long, ors_long, apart_long}
 use Rattle.rows.specs.Bounds.{own_row_count}
-use Rattle.rows.specs.BoundsLaws.{rows_add}
+use Rattle.rows.proofs.BoundsLaws.{rows_add}
 use Rattle.rowbytes.specs.Written.{Puts, Space}
 use Rattle.rowbytes.specs.WrittenLaws.{row_after, puts_as, one_row, rows_rows, puts_none}
 use Rattle.ownrows.specs.Encoded.{Room, Encoded}

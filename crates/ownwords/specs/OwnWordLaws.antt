@@ -7,8 +7,8 @@ use Rattle.std.proofs.Math.ListN.{length}
 use borrow.Author.Tests.{le-leb, lt-leb}
 use Rattle.logic.specs.Formula.{Form}
 use Rattle.logic.specs.Table.{atom_of, join_of, join_from5}
-use Rattle.logic.specs.TableLaws.{a_is_child, b_is_child, b_of_8}
-use Rattle.logic.specs.Operators.{each_atom, each_join, each_operator}
+use Rattle.logic.proofs.TableLaws.{a_is_child, b_is_child, b_of_8}
+use Rattle.logic.proofs.Operators.{each_atom, each_join, each_operator}
 use Rattle.logic.specs.Weight.{kid, Adds}
 use Rattle.logic.specs.Children.{none, one, two}
 use Rattle.put.specs.Puts.{Room}

@@ -5,8 +5,9 @@ use Rattle.std.proofs.Math.Decide.{dec_lt}
 use Rattle.std.specs.Int.Bits.{bit_and}
 use Rattle.std.proofs.lemmas.Nat.{and_le_r}
 use Rattle.logic.specs.Tests.{all, digit}
-use Rattle.logic.specs.Digits.{digit_lt}
-use Rattle.logic.specs.Reflect.{Is, is_eq, is_iff, is_all, is_self}
+use Rattle.logic.proofs.Digits.{digit_lt}
+use Rattle.logic.specs.Reflect.{Is}
+use Rattle.logic.proofs.Reflect.{is_eq, is_iff, is_all, is_self}
 use Rattle.cells.specs.Cells.{most, word, cells}
 use Rattle.cells.specs.Bits.{digit_zero, digit_past, digit_and, digit_sum, same_digits, sum_lt}
 use Rattle.cells.specs.Taken.{bytes_all}

@@ -7,7 +7,8 @@ use Rattle.std.proofs.Math.Nat.{pow-le-pow_right}
 use Rattle.std.proofs.Math.Decide.{dec_lt, ℕ_discrete}
 use native.Mathlib.Omega.{arith}
 use Rattle.std.proofs.lemmas.Bool.{eqb-false}
-use Rattle.logic.specs.Digits.{num_of, num_of_lt, digit_num}
+use Rattle.logic.specs.Digits.{num_of}
+use Rattle.logic.proofs.Digits.{num_of_lt, digit_num}
 use Rattle.logic.specs.Tests.{pick, digit}
 use Rattle.logic.specs.Model.{stack_in, heap_in, digit_of}
 use Rattle.cells.specs.Cells.{most, word, cells}

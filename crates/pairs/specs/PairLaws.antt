@@ -4,7 +4,7 @@ use Rattle.std.specs.Prelude.{◌≡◌, refl, true, List, [], ◌∷◌, ℕ, z
 use Rattle.std.proofs.Common.{sym, ap, subst, ◌∙◌, lt_of_lt_of_le, le_trans, zero-add, arith, length-take, length-drop, get_or-drop, get_or-take, eqb-true}
 use Rattle.std.proofs.Math.Nat.{pow-le-pow_right}
 use Rattle.std.proofs.Math.Decide.{ℕ_discrete}
-use Rattle.logic.specs.Reflect.{false_true}
+use Rattle.logic.proofs.Reflect.{false_true}
 use Rattle.logic.specs.Book.{most}
 use Rattle.cells.specs.Cells.{full, Sub}
 use Rattle.pairs.specs.Pairs.{sets, pairs, size, set_of, part_of, pair, next, follow, in_order, Listed, Lists, part_at, Inside}

@@ -11,7 +11,7 @@ use Rattle.std.proofs.lemmas.Nat.{and_le_r}
 use borrow.Author.Tests.{eqb-true, eq-eqb, ne_eqb, leb-true, ltb-true}
 use Rattle.logic.specs.Tests.{andb}
 use Rattle.logic.specs.Book.{most as most_listed}
-use Rattle.logic.specs.Reflect.{is_and, is_self}
+use Rattle.logic.proofs.Reflect.{is_and, is_self}
 use Rattle.cells.specs.Cells.{most, full, Sub}
 use Rattle.cells.specs.Subsets.{next_above, next_least, and_sub}
 use Rattle.pairs.specs.Pairs.{sets, set_of, part_of, pair, next, follow, begins}

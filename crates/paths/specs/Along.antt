@@ -11,8 +11,10 @@ use Rattle.std.proofs.Math.Dec.{eqb}
 use Rattle.logic.specs.Heap.{Heap, Allocated}
 use Rattle.logic.specs.Tests.{orb, digit, in_part, stepped}
 use Rattle.logic.specs.Paths.{NoLongPath}
-use Rattle.logic.specs.PathLaws.{PathFrom, path_stepped, none_long}
-use Rattle.logic.specs.Reflect.{Is, false_true, is_iff, is_eq, is_self, is_or, decided}
+use Rattle.logic.specs.PathLaws.{PathFrom}
+use Rattle.logic.proofs.PathLaws.{path_stepped, none_long}
+use Rattle.logic.specs.Reflect.{Is}
+use Rattle.logic.proofs.Reflect.{false_true, is_iff, is_eq, is_self, is_or, decided}
 use Rattle.cells.specs.Cells.{most, cells}
 use Rattle.cells.specs.Bits.{digit_shr}
 use Rattle.cells.specs.Sets.{in_nothing, in_or, in_pow}

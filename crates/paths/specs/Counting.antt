@@ -5,8 +5,10 @@ use Rattle.logic.specs.Heap.{Map, Heap}
 use Rattle.logic.specs.Tests.{pick, all, digit, in_part}
 use Rattle.logic.specs.Digits.{num_of}
 use Rattle.logic.specs.Paths.{NoLongPath}
-use Rattle.logic.specs.PathLaws.{size, path_size}
-use Rattle.logic.specs.Reflect.{Is, is_eq, is_all}
+use Rattle.logic.specs.PathLaws.{size}
+use Rattle.logic.proofs.PathLaws.{path_size}
+use Rattle.logic.specs.Reflect.{Is}
+use Rattle.logic.proofs.Reflect.{is_eq, is_all}
 use Rattle.cells.specs.Cells.{most, full, word, cells}
 use Rattle.cells.specs.Taken.{tops_of, tops_for, set_of, set_taken, tops_are}
 

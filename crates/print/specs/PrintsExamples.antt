@@ -10,7 +10,8 @@ use Rattle.logic.specs.Table.{kind_of, uses, tree, deep, form_of, atom_of}
 use Rattle.logic.specs.Computed.{laid_out, bounds_ok, formula_ok, operand_ok, node_ok, table_ok, all_named, named_by_atom, accepted}
 use Rattle.logic.specs.Candidates.{digits_of, bytes_to}
 use Rattle.logic.specs.Trials.{fits_at, first, outcome_of}
-use Rattle.logic.specs.SearchExamples.{Searched, searched_test, searched_right, written, worked_out}
+use Rattle.logic.specs.SearchExamples.{Searched, searched_test, written, worked_out}
+use Rattle.logic.proofs.SearchExamples.{searched_right}
 use Rattle.lines.specs.Printed.{printed}
 use Rattle.lines.specs.Shown.{p1_shown}
 use Rattle.lines.specs.PrintedExamples.{p1_printed}

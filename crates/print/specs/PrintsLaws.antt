@@ -11,18 +11,18 @@ use Rattle.logic.specs.declared.Profile.TheVariants.{Strong}
 use Rattle.logic.specs.declared.Answer.{Answer}
 use Rattle.logic.specs.Numbers.{yes_number}
 use Rattle.logic.specs.Book.{most, vars_of, locs_of, formula_of, Accepted, Opens}
-use Rattle.logic.specs.BookLaws.{accepted_whole, reads_no}
-use Rattle.logic.specs.OpenLaws.{opened, vars_low, locs_low}
+use Rattle.logic.proofs.BookLaws.{accepted_whole, reads_no}
+use Rattle.logic.proofs.OpenLaws.{opened, vars_low, locs_low}
 use Rattle.logic.specs.Checks.{Passes}
-use Rattle.logic.specs.CheckLaws.{passes_at}
+use Rattle.logic.proofs.CheckLaws.{passes_at}
 use Rattle.logic.specs.Tests.{heap_of}
-use Rattle.logic.specs.Agree.{heap_of_heap}
+use Rattle.logic.proofs.Agree.{heap_of_heap}
 use Rattle.logic.specs.Model.{byte_checks}
 use Rattle.logic.specs.Candidates.{stack_of, model_of}
-use Rattle.logic.specs.CandidateLaws.{stack_of_stack, model_long, model_in_range}
+use Rattle.logic.proofs.CandidateLaws.{stack_of_stack, model_long, model_in_range}
 use Rattle.logic.specs.Search.{Searches}
-use Rattle.logic.specs.SearchLaws.{searches_single}
-use Rattle.logic.specs.RefusalLaws.{searches_answered}
+use Rattle.logic.proofs.SearchLaws.{searches_single}
+use Rattle.logic.proofs.RefusalLaws.{searches_answered}
 use Rattle.lines.specs.Printed.{Locations, printed}
 use Rattle.lines.specs.PrintedLaws.{printed_no}
 use Rattle.print.specs.Prints.{budget, blank, Prints, PutsPrinted}

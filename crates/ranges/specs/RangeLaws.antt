@@ -5,8 +5,9 @@ use Rattle.std.proofs.Common.{◌∙◌, subst, inl, inr, ⊎_elim, zero-add, ar
 use Prim.Native.Nat.{ℕ, zero, suc, ◌+◌, ◌-◌, ◌%◌, ◌<◌, ◌≤◌}
 use Rattle.std.proofs.Math.Decide.{dec_lt, ℕ_discrete}
 use Rattle.logic.specs.Checks.{upto, Passes}
-use Rattle.logic.specs.CheckLaws.{passes_none, passes_more}
-use Rattle.logic.specs.Reflect.{Is, is_iff, is_le}
+use Rattle.logic.proofs.CheckLaws.{passes_none, passes_more}
+use Rattle.logic.specs.Reflect.{Is}
+use Rattle.logic.proofs.Reflect.{is_iff, is_le}
 use Rattle.logic.specs.Book.{most}
 use Rattle.logic.specs.Model.{digit_of, InRange, ByteOk, byte_checks}
 use Rattle.cells.specs.Cells.{cells}

@@ -5,7 +5,7 @@ use Rattle.std.proofs.Math.Path.{subst}
 use Rattle.logic.specs.declared.Profile.{Profile}
 use Rattle.logic.specs.Formula.{Form}
 use Rattle.logic.specs.Table.{op_of, operand_of, atom_of, join_of, join_from5, tree}
-use Rattle.logic.specs.NodeLaws.{atom_operands, child_operands, tree_atom, tree_join}
+use Rattle.logic.proofs.NodeLaws.{atom_operands, child_operands, tree_atom, tree_join}
 use Rattle.cells.specs.Cells.{most, cells}
 use Rattle.facts.specs.declared.Fact.{Fact}
 use Rattle.facts.specs.Known.{Known, JoinedAs, AnyAs}

@@ -7,17 +7,17 @@ use Rattle.logic.specs.Heap.{Map, Stack, Heap}
 use Rattle.logic.specs.Formula.{Form}
 use Rattle.logic.specs.Tests.{in_part}
 use Rattle.logic.specs.Table.{tree}
-use Rattle.logic.specs.Reflect.{false_true}
+use Rattle.logic.proofs.Reflect.{false_true}
 use Rattle.logic.specs.Candidates.{number_of}
 use Rattle.cells.specs.Cells.{most, cells}
 use Rattle.cells.specs.Bits.{digit_is}
 use Rattle.skips.specs.Counts.{incoming, above}
 use Rattle.skips.specs.Facts.{Digits, Caps, Hopeless}
-use Rattle.skips.specs.DigitRules.{hopeless, digits_hopeless}
-use Rattle.skips.specs.BoundRules.{caps_hopeless}
+use Rattle.skips.proofs.DigitRules.{hopeless, digits_hopeless}
+use Rattle.skips.proofs.BoundRules.{caps_hopeless}
 use Rattle.skips.specs.Blocks.{most_outgoing}
-use Rattle.skips.specs.BlockFacts.{SkippableAt}
-use Rattle.skips.specs.HereLaws.{hopeless_here, digit_here, crowded_here}
+use Rattle.skips.proofs.BlockFacts.{SkippableAt}
+use Rattle.skips.proofs.HereLaws.{hopeless_here, digit_here, crowded_here}
 use Rattle.facts.specs.declared.Fact.{Fact}
 use Rattle.facts.specs.Known.{In}
 use Rattle.facts.specs.KnownLaws.{in_none, no_digit_hopeless}

@@ -8,7 +8,7 @@ use Rattle.rows.specs.declared.Fields.{Fields}
 use Rattle.rows.specs.declared.Next.{Next}
 use Rattle.rows.specs.Row.{Row, fields_of, ten_bytes, bytes_of}
 use Rattle.rows.specs.Table.{moved}
-use Rattle.rows.specs.OutputLaws.{bytes_append, bytes_long}
+use Rattle.rows.proofs.OutputLaws.{bytes_append, bytes_long}
 use Rattle.rowbytes.specs.Written.{put, Puts, Space}
 
 pub put_put : (at : ℕ) (xs ys o : List ℕ) → at + length xs ≤ length o → put (at + length xs) ys (put at xs o) ≡ put at (xs ++ ys) o

@@ -4,7 +4,8 @@ use Rattle.std.proofs.Common.{ap₂, subst, arith}
 use Rattle.logic.specs.Formula.{Form}
 use Rattle.logic.specs.Formula.Form.{conj, disj, but, neg, sep, sept}
 use Rattle.logic.specs.Holds.{Holds}
-use Rattle.logic.specs.Reflect.{Is, is_iff, is_and, is_or, is_not}
+use Rattle.logic.specs.Reflect.{Is}
+use Rattle.logic.proofs.Reflect.{is_iff, is_and, is_or, is_not}
 use Rattle.logic.specs.Tests.{andb, orb}
 use Rattle.logic.specs.Table.{op_of, operand_of, atom_of, join_of, join_from5, tree}
 use Rattle.logic.specs.Book.{nodes, Known}
@@ -12,9 +13,9 @@ use Rattle.rows.specs.Assignment.{on}
 use Rattle.rows.specs.Meaning.{Splits, Apart, Same}
 use Rattle.rows.specs.Table.{arrays_in, sets_in}
 use Rattle.rows.specs.Condition.{Condition}
-use Rattle.logic.specs.Operators.{each_atom}
-use Rattle.rows.specs.Sound.{flat}
-use Rattle.logic.specs.KnownLaws.{atom_tree, join_tree}
+use Rattle.logic.proofs.Operators.{each_atom}
+use Rattle.rows.proofs.Sound.{flat}
+use Rattle.logic.proofs.KnownLaws.{atom_tree, join_tree}
 use Rattle.encodable.specs.EncodableLaws.{flat_atoms}
 use Rattle.rowjudge.specs.declared.Setting.{Setting}
 use Rattle.rowjudge.specs.declared.Told.{Told}

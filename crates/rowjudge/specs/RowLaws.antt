@@ -13,9 +13,10 @@ use Rattle.logic.specs.declared.Profile.{Profile}
 use Rattle.logic.specs.Heap.{Map, Heap, Locs, MayMeet, Empty}
 use Rattle.logic.specs.Holds.{Points, Segment, Holds}
 use Rattle.logic.specs.Table.{atom_of}
-use Rattle.logic.specs.Reflect.{Is, is_iff, is_eq, is_and, is_not, false_true, decided}
+use Rattle.logic.specs.Reflect.{Is}
+use Rattle.logic.proofs.Reflect.{is_iff, is_eq, is_and, is_not, false_true, decided}
 use Rattle.logic.specs.Tests.{andb, orb, pick, in_part, part, may_meet}
-use Rattle.logic.specs.Agree.{is_may_meet, locs_low}
+use Rattle.logic.proofs.Agree.{is_may_meet, locs_low}
 use Rattle.logic.specs.Model.{heap_in, digit_of}
 use Rattle.logic.specs.Book.{most}
 use Rattle.cells.specs.Cells.{full, word, cells, Spread, Barred, Met}
@@ -26,7 +27,7 @@ use Rattle.packing.specs.Packing.{packed_from}
 use Rattle.packing.specs.PackingLaws.{packed_heap, packed_lt}
 use Rattle.rows.specs.Assignment.{Set, Member, on}
 use Rattle.rows.specs.Meaning.{Splits, WithValues, Apart, Same}
-use Rattle.rows.specs.OnSet.{on_member, with_values, same_on}
+use Rattle.rows.proofs.OnSet.{on_member, with_values, same_on}
 use Rattle.arrays.specs.Unpacked.{values_of, values_in}
 
 -- a set of few locations is a set of the most that fit in one number

@@ -1,12 +1,12 @@
 -- What a setting gives of its arrays and sets. Assumes nothing.
 use Rattle.std.specs.Prelude.{◌≡◌, List, ℕ, ◌+◌, ◌<◌, ◌≤◌, length, get_or}
 use Rattle.std.proofs.Common.{sym, ap, ap₂, subst, ◌∙◌, arith}
-use Rattle.logic.specs.Agree.{heap_more}
+use Rattle.logic.proofs.Agree.{heap_more}
 use Rattle.logic.specs.Heap.{Map, Heap}
 use Rattle.logic.specs.Tests.{in_part}
 use Rattle.cells.specs.Cells.{most, cells}
 use Rattle.rows.specs.Assignment.{on}
-use Rattle.rows.specs.OnSet.{on_heap}
+use Rattle.rows.proofs.OnSet.{on_heap}
 use Rattle.arrays.specs.Unpacked.{values_in}
 use Rattle.rowjudge.specs.declared.Setting.{Setting}
 use Rattle.rowjudge.specs.Setting.{given, Ready}

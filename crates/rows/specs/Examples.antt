@@ -1,4 +1,4 @@
--- Document 01's P1: the encoding of x ↦ x. Assumes nothing.
+-- What proofs/Examples speaks of. Assumes nothing: these are definitions.
 use Rattle.std.specs.Prelude.{◌≡◌, refl, List, [], ◌∷◌, ℕ}
 use Rattle.logic.specs.declared.Profile.TheVariants.{Strong}
 use Rattle.logic.specs.Table.{tree, deep, form_of, atom_of, join_of, join_from5}
@@ -9,14 +9,3 @@ use Rattle.rows.specs.Output.{encoding_of}
 -- "P1's book is 02 01 0B 00 03 00 02 0E 00 03 00 01 01 01 03 01 01."
 abbrev pub p1 : List ℕ
 p1 = 2 ∷ 1 ∷ 11 ∷ 0 ∷ 3 ∷ 0 ∷ 2 ∷ 14 ∷ 0 ∷ 3 ∷ 0 ∷ 1 ∷ 1 ∷ 1 ∷ 3 ∷ 1 ∷ 1 ∷ []
-
--- "P1's encoding is 64 bytes": a head of 14, ONE, AT and AND as before, then LONG over array 0 and set 0 with p = 1, and AND
-pub p1_encoding : encoding_of Strong p1 ≡
-    2 ∷ 1 ∷ 11 ∷ 0 ∷ 3 ∷ 0 ∷ 3 ∷ 14 ∷ 0 ∷ 50 ∷ 0 ∷ 1 ∷ 1 ∷ 1
-    ∷ 4 ∷ 0 ∷ 0 ∷ 0 ∷ 1 ∷ 0 ∷ 0 ∷ 0 ∷ 0 ∷ 0
-    ∷ 5 ∷ 0 ∷ 0 ∷ 0 ∷ 1 ∷ 0 ∷ 1 ∷ 0 ∷ 0 ∷ 0
-    ∷ 7 ∷ 0 ∷ 0 ∷ 0 ∷ 1 ∷ 0 ∷ 0 ∷ 0 ∷ 0 ∷ 0
-    ∷ 13 ∷ 1 ∷ 0 ∷ 0 ∷ 0 ∷ 0 ∷ 0 ∷ 0 ∷ 0 ∷ 0
-    ∷ 7 ∷ 0 ∷ 2 ∷ 0 ∷ 3 ∷ 0 ∷ 0 ∷ 0 ∷ 0 ∷ 0 ∷ []
-unfolding encoding_of bytes_of fields_of rows_of rows_in arrays_in sets_in tree deep form_of atom_of join_of join_from5
-p1_encoding = refl

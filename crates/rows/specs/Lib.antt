@@ -4,16 +4,9 @@ pub mod Meaning
 pub mod Table
 pub mod TableLaws
 pub mod Condition
-pub mod LastRow
-pub mod OnSet
-pub mod Sound
 pub mod Symbols
 pub mod PartSets
-pub mod Complete
-pub mod Encoding
 pub mod Bounds
-pub mod BoundsLaws
 pub mod Output
 pub mod Assigned
-pub mod OutputLaws
 pub mod Examples

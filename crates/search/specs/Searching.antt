@@ -7,15 +7,16 @@ use Rattle.logic.specs.declared.Profile.{Profile}
 use Rattle.logic.specs.declared.Answer.{Answer}
 use Rattle.logic.specs.Numbers.{yes_number, output_length}
 use Rattle.logic.specs.Checks.{Checks, done, check, ◌then◌, upto, Passes, Answers}
-use Rattle.logic.specs.CheckLaws.{Yes, Refuses, refuses_upto, passes_of_yes, passes_then, then_passes, answers_refused, answers_after}
+use Rattle.logic.specs.CheckLaws.{Yes, Refuses}
+use Rattle.logic.proofs.CheckLaws.{refuses_upto, passes_of_yes, passes_then, then_passes, answers_refused, answers_after}
 use Rattle.logic.specs.Formula.{Form}
 use Rattle.logic.specs.Table.{Sound, tree}
 use Rattle.logic.specs.Book.{most, vars_of, locs_of, formula_of, nodes, root, Known, Bodies}
-use Rattle.logic.specs.OpenLaws.{vars_low, locs_low, known}
+use Rattle.logic.proofs.OpenLaws.{vars_low, locs_low, known}
 use Rattle.logic.specs.Candidates.{model_bytes}
 use Rattle.logic.specs.Strays.{name_checks}
 use Rattle.logic.specs.Search.{CandidateFits, FitsAt, room_checks, search_rest, Searches}
-use Rattle.logic.specs.SearchLaws.{searches_rest, searches_wrote, searches_kept}
+use Rattle.logic.proofs.SearchLaws.{searches_rest, searches_wrote, searches_kept}
 use Rattle.cells.specs.Cells.{cells}
 use Rattle.judge.specs.Setting.{room}
 use Rattle.packing.specs.SameTable.{same_tree, same_sound}

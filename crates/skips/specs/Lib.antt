@@ -1,14 +1,6 @@
 pub mod Counts
 pub mod Facts
-pub mod DigitRules
-pub mod CountLaws
 pub mod BoundRules
 pub mod Ranges
-pub mod RangeLaws
 pub mod Order
-pub mod LowestLaws
 pub mod Blocks
-pub mod BlockLaws
-pub mod BlockFacts
-pub mod AfterLaws
-pub mod HereLaws

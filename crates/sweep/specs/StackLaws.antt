@@ -7,7 +7,8 @@ use native.Mathlib.Omega.{arith}
 use Rattle.logic.specs.Heap.{Map, Heap}
 use Rattle.logic.specs.Table.{tree}
 use Rattle.logic.specs.Tests.{pick, heap_of}
-use Rattle.logic.specs.Reflect.{Is, fails}
+use Rattle.logic.specs.Reflect.{Is}
+use Rattle.logic.proofs.Reflect.{fails}
 use Rattle.logic.specs.Model.{Fits}
 use Rattle.logic.specs.Candidates.{total, stack_of as stack_at, number_of}
 use Rattle.logic.specs.Search.{CandidateFits, Lowest}
@@ -17,8 +18,8 @@ use Rattle.candidates.specs.declared.Candidate.{Candidate}
 use Rattle.candidates.specs.Counter.{Passes}
 use Rattle.candidates.specs.CounterLaws.{total_low}
 use Rattle.skips.specs.Blocks.{weight, after, Skippable}
-use Rattle.skips.specs.BlockLaws.{in_block, weight_some}
-use Rattle.skips.specs.BlockFacts.{SkippableAt, skip_tried}
+use Rattle.skips.proofs.BlockLaws.{in_block, weight_some}
+use Rattle.skips.proofs.BlockFacts.{SkippableAt, skip_tried}
 use Rattle.blocks.specs.Over.{Over}
 use Rattle.sweep.specs.Sweep.{At, low_of, Going, Facing}
 use Rattle.sweep.specs.SweepLaws.{at_stack, at_heap, at_number, same_stack, going_at, going_on}

@@ -6,7 +6,8 @@ use Rattle.logic.specs.declared.Profile.{Profile}
 use Rattle.logic.specs.declared.Profile.TheVariants.{Strong}
 use Rattle.logic.specs.Formula.{Form}
 use Rattle.logic.specs.Table.{Sound, tree}
-use Rattle.logic.specs.Reflect.{Is, false_true}
+use Rattle.logic.specs.Reflect.{Is}
+use Rattle.logic.proofs.Reflect.{false_true}
 use Rattle.logic.specs.Candidates.{total}
 use Rattle.logic.specs.Search.{CandidateFits}
 use Rattle.cells.specs.Cells.{cells, Barred}
@@ -17,9 +18,9 @@ use Rattle.candidates.specs.PassLaws.{after_one}
 use Rattle.levels.specs.Levels.{OutOfOrder}
 use Rattle.skips.specs.Ranges.{Passed}
 use Rattle.skips.specs.Blocks.{weight, after}
-use Rattle.skips.specs.BlockLaws.{weight_first, weight_some}
-use Rattle.skips.specs.BlockFacts.{SkippableAt}
-use Rattle.skips.specs.HereLaws.{label_here}
+use Rattle.skips.proofs.BlockLaws.{weight_first, weight_some}
+use Rattle.skips.proofs.BlockFacts.{SkippableAt}
+use Rattle.skips.proofs.HereLaws.{label_here}
 use Rattle.rootfacts.specs.RootFacts.{digits_at, Facts}
 use Rattle.rootfacts.specs.RootLaws.{hopeless_goes}
 use Rattle.sweep.specs.Sweep.{low_of, Facing}

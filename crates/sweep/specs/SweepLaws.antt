@@ -6,15 +6,15 @@ use Rattle.std.proofs.Math.Decide.{dec_lt}
 use Rattle.logic.specs.Heap.{Map}
 use Rattle.logic.specs.Tests.{heap_of}
 use Rattle.logic.specs.Candidates.{total, stack_of, number_of}
-use Rattle.logic.specs.CandidateLaws.{stack_of_number, heap_of_its_number}
+use Rattle.logic.proofs.CandidateLaws.{stack_of_number, heap_of_its_number}
 use Rattle.logic.specs.Search.{Lowest}
-use Rattle.logic.specs.Reflect.{false_true}
+use Rattle.logic.proofs.Reflect.{false_true}
 use Rattle.cells.specs.Cells.{cells}
 use Rattle.candidates.specs.declared.Candidate.{Candidate}
 use Rattle.candidates.specs.Counter.{WithinBounds, number, Passes}
 use Rattle.skips.specs.Ranges.{Passed, FitInRange, Gives, reply_of, numbered, nothing}
 use Rattle.skips.specs.Blocks.{weight, Block, after, Skippable}
-use Rattle.skips.specs.BlockLaws.{in_block, after_above, weight_some, block_whole_stack}
+use Rattle.skips.proofs.BlockLaws.{in_block, after_above, weight_some, block_whole_stack}
 use Rattle.sweep.specs.declared.Stretch.{Stretch}
 use Rattle.sweep.specs.Sweep.{At, Going, Given}
 

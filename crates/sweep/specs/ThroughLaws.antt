@@ -12,7 +12,7 @@ use Rattle.candidates.specs.declared.Candidate.{Candidate}
 use Rattle.candidates.specs.Counter.{WithinBounds, number, Passes}
 use Rattle.levels.specs.Levels.{OutOfOrder}
 use Rattle.skips.specs.Blocks.{weight, after}
-use Rattle.skips.specs.BlockLaws.{weight_some}
+use Rattle.skips.proofs.BlockLaws.{weight_some}
 use Rattle.sweep.specs.declared.Stretch.{Stretch}
 use Rattle.sweep.specs.Sweep.{low_of, Going, Given}
 use Rattle.sweep.specs.SweepLaws.{going_on, piece_passed}

@@ -2,9 +2,9 @@
 use Rattle.std.specs.Prelude.{◌≡◌, refl, Bool, true, false, not, List, [], ◌∷◌, ◌++◌, ℕ, zero, suc, ◌+◌, ◌-◌, ◌*◌, ◌/◌, ◌%◌, ◌≤◌, ◌<◌, eqb, ltb, length}
 use Rattle.std.proofs.Common.{sym, ap, ◌∙◌, append_assoc, append-nil, arith, length-append, eqb-true, eq-eqb, ne_eqb, lt-ltb, le-ltb}
 use Rattle.std.proofs.lemmas.Bool.{eqb-false}
-use Rattle.grammar.specs.Spellings.{none_among, spelling_reserved}
+use Rattle.grammar.proofs.Spellings.{none_among, spelling_reserved}
 use Rattle.logic.specs.Tests.{andb, same_bytes}
-use Rattle.logic.specs.Reflect.{is_and, is_lt, is_self, is_same_bytes, refutes}
+use Rattle.logic.proofs.Reflect.{is_and, is_lt, is_self, is_same_bytes, refutes}
 use Rattle.grammar.specs.Phrase.{Word, joins, denies, relates, spelling, longest}
 use Rattle.grammar.specs.Phrase.Join.{and_word, or_word, sep_word, wand_word}
 use Rattle.grammar.specs.Phrase.Atom.{equal_word, distinct_word, pto_word, ls_word}

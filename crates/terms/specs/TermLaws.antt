@@ -7,16 +7,17 @@ use mathlib.Core.List.{List, [], ◌∷◌, ◌++◌}
 use native.Mathlib.Omega.{arith}
 use Rattle.std.proofs.Math.ListN.{get_or}
 use borrow.Author.Tests.{eqb-true, eqb-false, ne_eqb, le-leb, lt-leb}
-use Rattle.grammar.specs.Steps.{onward, looks, goes_still}
-use Rattle.grammar.specs.Spellings.{other}
+use Rattle.grammar.proofs.Steps.{onward, looks, goes_still}
+use Rattle.grammar.proofs.Spellings.{other}
 use Rattle.logic.specs.Tests.{andb, same_bytes}
-use Rattle.logic.specs.Reflect.{is_same_bytes, refutes, Is, is_and, is_or, is_le, fails, false_true}
+use Rattle.logic.specs.Reflect.{Is}
+use Rattle.logic.proofs.Reflect.{is_same_bytes, refutes, is_and, is_or, is_le, fails, false_true}
 use Rattle.grammar.specs.Phrase.{bytes, joins, Term, nil_term, name_term, spelling, lower, letter, choose}
 use Rattle.grammar.specs.Phrase.Join.{sep_word}
 use Rattle.grammar.specs.Grammar.{seen, blank, Byte, Spelt}
 use Rattle.grammar.specs.Grammar.Spelt.{no_more, one_more}
 use Rattle.grammar.specs.Machine.{Frame, Spot, start, later, arg, name, nil, dead, reserved, viable, termed, closing, step, out, bad, emits, alive, ending}
-use Rattle.grammar.specs.Forward.{Behind, spells_nil, run_name, run_nil}
+use Rattle.grammar.proofs.Forward.{Behind, spells_nil, run_name, run_nil}
 use Rattle.words.specs.Words.{SpelledIs}
 use Rattle.words.specs.declared.Next.TheVariants.{At, Bad}
 use Rattle.words.specs.Stops.{stops, nil_misses}

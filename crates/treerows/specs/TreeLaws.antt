@@ -12,8 +12,8 @@ use Rattle.rows.specs.declared.Next.{Next}
 use Rattle.rows.specs.Row.{Row, bytes_of}
 use Rattle.rows.specs.Row.Row.{AND, OR, NOT}
 use Rattle.rows.specs.Table.{arrays_in, sets_in, moved, two_sets, array_and_sets, after, apart_row_count, sep_rows, sept_rows, rows_in, rows_of}
-use Rattle.rows.specs.TableLaws.{rows_some, rows_long, atom_long, atom_rows, trees_long}
-use Rattle.logic.specs.KnownLaws.{atom_tree, join_tree}
+use Rattle.rows.proofs.TableLaws.{rows_some, rows_long, atom_long, atom_rows, trees_long}
+use Rattle.logic.proofs.KnownLaws.{atom_tree, join_tree}
 use Rattle.rowbytes.specs.Written.{put, Puts, Space}
 use Rattle.rowbytes.specs.WrittenLaws.{row_after, puts_as, rows_rows, space_after, space_less}
 use Rattle.ownrows.specs.Encoded.{Room, Encoded}

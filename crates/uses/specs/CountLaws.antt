@@ -5,7 +5,7 @@ use Rattle.std.proofs.Math.Decide.{ℕ_discrete}
 use Rattle.logic.specs.Tests.{andb, pick}
 use Rattle.logic.specs.Table.{op_of, operand_of, kind_of, uses}
 use Rattle.uses.specs.Counts.{OneMore, NodeMore}
-use Rattle.logic.specs.TableLaws.{child_on, no_child_on, atom_uses, a_is_child, b_is_child, b_of_8}
+use Rattle.logic.proofs.TableLaws.{child_on, no_child_on, atom_uses, a_is_child, b_is_child, b_of_8}
 
 pub one_more : (t : List ℕ) (x i : ℕ) → i ≡ x → x < length t → OneMore t x (set t i (get_or t i 0 + 1))
 one_more t x i e l k = go (ℕ_discrete x k)

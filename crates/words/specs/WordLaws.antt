@@ -6,10 +6,12 @@ use Rattle.std.proofs.Math.Bool.{true}
 use mathlib.Core.List.{List, [], ◌∷◌}
 use Rattle.std.proofs.Math.ListN.{length, get_or-eq_default}
 use borrow.Author.Tests.{eq-eqb, ne_eqb, ltb-true, ltb-false, leb-true, lt-ltb, lt-leb}
-use Rattle.grammar.specs.Steps.{onward, looks, goes_still, skip_head, skip_shut, waits}
+use Rattle.grammar.specs.Steps.{waits}
+use Rattle.grammar.proofs.Steps.{onward, looks, goes_still, skip_head, skip_shut}
 use Rattle.logic.specs.Tests.{andb, orb, same_bytes}
-use Rattle.logic.specs.Reflect.{is_same_bytes, Is, is_and, is_self, false_true}
-use Rattle.logic.specs.Entries.{every, entry_of}
+use Rattle.logic.specs.Reflect.{Is}
+use Rattle.logic.proofs.Reflect.{is_same_bytes, is_and, is_self, false_true}
+use Rattle.logic.proofs.Entries.{every, entry_of}
 use Rattle.grammar.specs.Phrase.{bytes, Word, joins, denies, relates, Phrase, emp, join, deny, spelling, sep_emp}
 use Rattle.grammar.specs.Phrase.Join.{and_word, or_word, sep_word, wand_word}
 use Rattle.grammar.specs.Phrase.Atom.{equal_word, distinct_word, pto_word, ls_word}
@@ -18,7 +20,7 @@ use Rattle.grammar.specs.Grammar.Spelt.{no_more, one_more}
 use Rattle.grammar.specs.Grammar.Blanks.{a_blank}
 use Rattle.grammar.specs.Grammar.Edge.{at_end, at_blank, at_open, at_close}
 use Rattle.grammar.specs.Machine.{Frame, only_one, first_of, second_of, item, gap, empty, head, word, shut, begun, past, own, step, out, bad, emits, alive, ending, over}
-use Rattle.grammar.specs.Forward.{spells, spells_emp, run_edge, run_gap, run_close}
+use Rattle.grammar.proofs.Forward.{spells, spells_emp, run_edge, run_gap, run_close}
 use Rattle.words.specs.declared.Next.{Next}
 use Rattle.words.specs.declared.Next.TheVariants.{At, Bad}
 use Rattle.words.specs.Words.{word_of, spellings, Begins, Skipped, here, later, SpelledIs, FreeItem, EmpIs}

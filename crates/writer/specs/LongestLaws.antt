@@ -3,13 +3,14 @@ use Rattle.std.specs.Prelude.{◌≡◌, List, ℕ, zero, suc, ◌≤◌, length
 use Rattle.std.proofs.Math.Path.{refl}
 use Rattle.std.proofs.Common.{ap, ◌∙◌, zero-le, arith}
 use Rattle.logic.specs.Table.{op_of, operand_of}
-use Rattle.logic.specs.Weight.{own_at, adds_up}
-use Rattle.logic.specs.Children.{nodes_counted, children_counted, at_most}
+use Rattle.logic.specs.Weight.{own_at}
+use Rattle.logic.proofs.Weight.{adds_up}
+use Rattle.logic.proofs.Children.{nodes_counted, children_counted, at_most}
 use Rattle.logic.specs.Book.{most_nodes, vars_of, formula_of, nodes, root, Accepted}
-use Rattle.logic.specs.BookLaws.{accepted_whole}
+use Rattle.logic.proofs.BookLaws.{accepted_whole}
 use Rattle.grammar.specs.Listing.{size_of}
 use Rattle.grammar.specs.ListingLaws.{Within}
-use Rattle.grammar.specs.BookOfLaws.{book_accepted, formula_of_book}
+use Rattle.grammar.proofs.BookOfLaws.{book_accepted, formula_of_book}
 use Rattle.writing.specs.Writing.{phrase_of, write, text_of}
 use Rattle.ownwords.specs.OwnWords.{text, own_byte_count}
 use Rattle.ownwords.specs.OwnWordLaws.{bytes_add, own_most}

@@ -7,11 +7,12 @@ use Rattle.std.proofs.Math.ListN.{length}
 use Rattle.logic.specs.declared.Answer.{Answer}
 use Rattle.logic.specs.Numbers.{answer}
 use Rattle.logic.specs.Checks.{◌then◌, Answers}
-use Rattle.logic.specs.CheckLaws.{Yes, answers_refused, answers_after}
+use Rattle.logic.specs.CheckLaws.{Yes}
+use Rattle.logic.proofs.CheckLaws.{answers_refused, answers_after}
 use Rattle.logic.specs.Table.{op_of, operand_of, tree}
 use Rattle.logic.specs.Book.{nodes, root, book_checks, Reads, Accepted, Known, Bodies}
-use Rattle.logic.specs.KnownLaws.{operator_some, atom_tree, join_tree}
-use Rattle.logic.specs.OpenLaws.{formula_is}
+use Rattle.logic.proofs.KnownLaws.{operator_some, atom_tree, join_tree}
+use Rattle.logic.proofs.OpenLaws.{formula_is}
 use Rattle.put.specs.Puts.{Room, Puts}
 use Rattle.put.specs.PutsLaws.{room_first, room_as, puts_at_front}
 use Rattle.writing.specs.Writing.{text_of, export_rest, Exports}

@@ -4,8 +4,8 @@ use borrow.Author.Tests.{not-true, not-false}
 use mathlib.Core.Logic.{inl, inr}
 use Prim.Native.Nat.{◌+◌, ◌≤◌}
 use native.Mathlib.Omega.{arith}
-use Rattle.logic.specs.OpenLaws.{read_given, opened, vars_low, locs_low, known}
-use Rattle.logic.specs.Reflect.{fails}
+use Rattle.logic.proofs.OpenLaws.{read_given, opened, vars_low, locs_low, known}
+use Rattle.logic.proofs.Reflect.{fails}
 use Rattle.rows.specs.Bounds.{most_arrays}
 use Rattle.encodable.specs.CountingLaws.{arrays_most, sets_most}
 use Rattle.assign.specs.JudgingLaws.{bytes_few, arrays_are, sets_are, assigns_book, assigns_19, assigns_range, judging, assigns_verdict}

@@ -7,7 +7,8 @@ use lib.Dec.{leb}
 use lib.ListN.{length}
 use Rattle.logic.specs.Table.{op_of}
 use Rattle.logic.specs.Tests.{pick}
-use Rattle.logic.specs.Weight.{sum, sum_start, sum_more}
+use Rattle.logic.specs.Weight.{sum}
+use Rattle.logic.proofs.Weight.{sum_start, sum_more}
 use Rattle.assignment.proofs.above.Given as goal
 
 abbrev pub invariant-loop-k : goal.invariant-loop-k

@@ -8,10 +8,11 @@ use native.Mathlib.Omega.{arith}
 use borrow.Author.Tests.{not-true, not-false}
 use Rattle.logic.specs.declared.Answer.{Answer}
 use Rattle.logic.specs.Checks.{upto, Passes, Answers}
-use Rattle.logic.specs.CheckLaws.{Yes, passes_none, passes_more, upto_refused, answers_passed}
-use Rattle.logic.specs.Reflect.{fails}
+use Rattle.logic.specs.CheckLaws.{Yes}
+use Rattle.logic.proofs.CheckLaws.{passes_none, passes_more, upto_refused, answers_passed}
+use Rattle.logic.proofs.Reflect.{fails}
 use Rattle.rows.specs.Assigned.{value_checks}
-use Rattle.solutions.specs.AssignedLaws.{value_test}
+use Rattle.solutions.proofs.AssignedLaws.{value_test}
 use Rattle.assignment.proofs.in_range.Given as goal
 
 abbrev pub invariant-loop-i : goal.invariant-loop-i

@@ -2,7 +2,7 @@
 use borrow.Author.Rules.{rules}
 use mathlib.Core.Logic.{inl, inr, ⊎_elim}
 use native.Mathlib.Omega.{arith}
-use Rattle.logic.specs.Reflect.{is_iff, is_le, is_lt}
+use Rattle.logic.proofs.Reflect.{is_iff, is_le, is_lt}
 use Rattle.assignment.proofs.is_value.Goals as goal
 
 pub returns-then-i-base : goal.returns-then-i-base

@@ -3,7 +3,7 @@ use borrow.Author.Rules.{rules}
 use mathlib.Core.Path.{sym, ◌∙◌, subst}
 use Prim.Native.Nat.{ℕ, suc, ◌+◌, ◌<◌}
 use borrow.Author.Tests.{ltb-true}
-use Rattle.logic.specs.Reflect.{false_true}
+use Rattle.logic.proofs.Reflect.{false_true}
 use Rattle.cells.specs.Cells.{cells}
 use Rattle.skips.specs.Counts.{incoming, above}
 use Rattle.skips.specs.Blocks.{most_outgoing}

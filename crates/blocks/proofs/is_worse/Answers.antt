@@ -1,6 +1,6 @@
 -- `blocks::is_worse` meets its contract. Assumes nothing.
 use borrow.Author.Rules.{rules}
-use Rattle.logic.specs.Reflect.{false_true}
+use Rattle.logic.proofs.Reflect.{false_true}
 use Rattle.blocks.proofs.is_worse.Goals as goal
 
 pub returns-then-a-ge-MOST : goal.returns-then-a-ge-MOST

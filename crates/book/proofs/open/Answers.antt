@@ -5,7 +5,7 @@ use native.Mathlib.Omega.{arith}
 use lib.ListN.{get_or}
 use mathlib.Core.List.{List}
 use Prim.Native.Nat.{ℕ}
-use Rattle.logic.specs.OpenLaws.{read_given, read_three}
+use Rattle.logic.proofs.OpenLaws.{read_given, read_three}
 use Rattle.book.proofs.open.Goals as goal
 
 pub part-b-requires : goal.part-b-requires

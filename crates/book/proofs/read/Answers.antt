@@ -6,7 +6,7 @@ use lib.ListN.{length, get_or}
 use Rattle.logic.specs.Numbers.{answer}
 use Rattle.logic.specs.Checks.{Passes}
 use Rattle.logic.specs.Book.{Reads}
-use Rattle.logic.specs.BookLaws.{reads_laid_out, formula_short, reads_contents, reads_bodies, reads_nodes, reads_uses, bodies_pass, nodes_pass, nodes_sound}
+use Rattle.logic.proofs.BookLaws.{reads_laid_out, formula_short, reads_contents, reads_bodies, reads_nodes, reads_uses, bodies_pass, nodes_pass, nodes_sound}
 use Rattle.book.proofs.read.Goals as goal
 
 pub returns-then-first-ne-YES : goal.returns-then-first-ne-YES

@@ -5,7 +5,7 @@ use Prim.Native.Nat.{ℕ}
 use native.Mathlib.Nat.{div-le_self}
 use native.Mathlib.Omega.{arith}
 use Rattle.skips.specs.Blocks.{weight, after}
-use Rattle.skips.specs.BlockLaws.{weight_first}
+use Rattle.skips.proofs.BlockLaws.{weight_first}
 use Rattle.candidates.specs.PassLaws.{after_one, after_most}
 use Rattle.candidates.proofs.number_after.Goals as goal
 

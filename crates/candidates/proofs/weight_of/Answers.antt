@@ -4,7 +4,7 @@ use mathlib.Core.Path.{◌∙◌, ap₂, sym, subst}
 use Prim.Native.Nat.{ℕ, ◌*◌, ◌≤◌}
 use native.Mathlib.Nat.{mul-le-mul}
 use native.Mathlib.Omega.{arith}
-use Rattle.skips.specs.BlockLaws.{weight_some}
+use Rattle.skips.proofs.BlockLaws.{weight_some}
 use Rattle.candidates.specs.CounterLaws.{total_fits}
 use Rattle.candidates.specs.PassLaws.{weight_below, weight_from}
 use Rattle.candidates.proofs.weight_of.Goals as goal

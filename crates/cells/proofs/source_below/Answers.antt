@@ -3,7 +3,7 @@ use mathlib.Core.Path.{refl, subst}
 use Prim.Native.Nat.{zero-le, ◌≤◌}
 use native.Mathlib.Omega.{arith}
 use borrow.Author.Rules.{rules}
-use Rattle.logic.specs.Reflect.{fails}
+use Rattle.logic.proofs.Reflect.{fails}
 use Rattle.cells.specs.Loops.{NoSource}
 use Rattle.cells.specs.Sources.{no_source_next}
 use Rattle.cells.proofs.source_below.Goals as goal

@@ -4,7 +4,7 @@ use mathlib.Core.Path.{refl}
 use mathlib.Core.Logic.{inl, inr}
 use native.Mathlib.Omega.{arith}
 use Rattle.logic.specs.Book.{Body}
-use Rattle.logic.specs.BookLaws.{reads_laid_out, not_laid_out}
+use Rattle.logic.proofs.BookLaws.{reads_laid_out, not_laid_out}
 use Rattle.contents.proofs.body.Goals as goal
 
 pub returns-then-a-ne-YES : goal.returns-then-a-ne-YES

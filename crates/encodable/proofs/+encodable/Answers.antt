@@ -2,7 +2,7 @@
 use Prim.Native.Nat.{ℕ, ◌<◌}
 use native.Mathlib.Omega.{arith}
 use borrow.Author.Rules.{rules}
-use Rattle.logic.specs.KnownLaws.{operator_some, lower}
+use Rattle.logic.proofs.KnownLaws.{operator_some, lower}
 use Rattle.encodable.specs.EncodableLaws.{encodable_atom, encodable_under, encodable_first, encodable_guarded, encodable_second}
 use Rattle.encodable.proofs.+encodable.Goals as goal
 

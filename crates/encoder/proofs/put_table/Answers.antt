@@ -3,7 +3,7 @@ use borrow.Author.Rules.{rules}
 use native.Mathlib.Omega.{arith}
 use Rattle.logic.specs.Table.{tree}
 use Rattle.logic.specs.Book.{root}
-use Rattle.rows.specs.TableLaws.{rows_some}
+use Rattle.rows.proofs.TableLaws.{rows_some}
 use Rattle.rowbytes.specs.WrittenLaws.{row_after, space_after}
 use Rattle.encoder.specs.EncodeLaws.{room_formula, table_written}
 use Rattle.encoder.proofs.put_table.Goals as goal

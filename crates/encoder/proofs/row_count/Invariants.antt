@@ -6,8 +6,9 @@ use lib.ListN.{length}
 use native.Mathlib.Omega.{arith}
 use Rattle.logic.specs.Table.{op_of}
 use Rattle.rows.specs.Bounds.{own_row_count}
-use Rattle.logic.specs.Weight.{sum, sum_start, sum_more}
-use Rattle.logic.specs.KnownLaws.{operator_some}
+use Rattle.logic.specs.Weight.{sum}
+use Rattle.logic.proofs.Weight.{sum_start, sum_more}
+use Rattle.logic.proofs.KnownLaws.{operator_some}
 use Rattle.encoder.specs.EncodeLaws.{rows_are}
 use Rattle.encoder.proofs.row_count.Given as goal
 

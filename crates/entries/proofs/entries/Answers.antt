@@ -3,7 +3,7 @@ use borrow.Author.Rules.{rules}
 use mathlib.Core.Logic.{inl, inr}
 use borrow.Author.Tests.{not-true, not-false}
 use Rattle.logic.specs.Checks.{◌then◌, Answers}
-use Rattle.logic.specs.Reflect.{fails}
+use Rattle.logic.proofs.Reflect.{fails}
 use Rattle.entries.proofs.entries.Goals as goal
 
 pub returns-then-not-first_kind : goal.returns-then-not-first_kind

@@ -4,7 +4,7 @@ use mathlib.Core.Path.{◌∙◌}
 use Prim.Native.Nat.{◌+◌}
 use lib.ListN.{length}
 use native.Mathlib.Omega.{arith}
-use Rattle.logic.specs.Reflect.{false_true, is_iff, is_le}
+use Rattle.logic.proofs.Reflect.{false_true, is_iff, is_le}
 use Rattle.logic.specs.Book.{start_of, EndOk}
 use Rattle.entries.proofs.is_first_placed.Goals as goal
 

@@ -2,7 +2,7 @@
 use borrow.Author.Rules.{rules}
 use Prim.Native.Nat.{◌+◌}
 use native.Mathlib.Omega.{arith}
-use Rattle.logic.specs.Reflect.{is_iff, is_eq}
+use Rattle.logic.proofs.Reflect.{is_iff, is_eq}
 use Rattle.entries.proofs.is_kind.Goals as goal
 
 pub returns : goal.returns

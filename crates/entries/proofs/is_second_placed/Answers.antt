@@ -3,7 +3,7 @@ use borrow.Author.Rules.{rules}
 use Prim.Native.Nat.{◌+◌}
 use lib.ListN.{length}
 use native.Mathlib.Omega.{arith}
-use Rattle.logic.specs.Reflect.{false_true, is_iff, is_eq}
+use Rattle.logic.proofs.Reflect.{false_true, is_iff, is_eq}
 use Rattle.logic.specs.Book.{start_of, EndOk}
 use Rattle.entries.proofs.is_second_placed.Goals as goal
 

@@ -4,7 +4,7 @@ use mathlib.Core.Path.{refl, subst, ◌∙◌}
 use Prim.Native.Nat.{ℕ, ◌+◌, ◌*◌, ◌-◌, ◌<◌}
 use native.Mathlib.Omega.{arith}
 use lib.ListN.{length}
-use Rattle.logic.specs.Reflect.{fails}
+use Rattle.logic.proofs.Reflect.{fails}
 use Rattle.grammar.specs.Machine.{only_one, first_of}
 use Rattle.words.specs.Words.{WordIs}
 use Rattle.words.specs.declared.Said.TheVariants.{Nothing}

@@ -4,7 +4,7 @@ use mathlib.Core.Path.{◌≡◌, subst}
 use mathlib.Core.Bool.{true, false}
 use native.Mathlib.Omega.{arith}
 use borrow.Author.Tests.{not-true, not-false}
-use Rattle.logic.specs.Reflect.{fails}
+use Rattle.logic.proofs.Reflect.{fails}
 use Rattle.words.specs.Words.{EmpIs}
 use Rattle.words.specs.declared.Next.TheVariants.{At, Bad}
 use Rattle.items.specs.ReadLaws.{stops_at, emp_read, emp_passes, emp_open}

@@ -1,7 +1,7 @@
 -- `items::opens` meets its contract. Assumes nothing.
 use borrow.Author.Rules.{rules}
 use native.Mathlib.Omega.{arith}
-use Rattle.logic.specs.Reflect.{is_iff, is_eq, false_true}
+use Rattle.logic.proofs.Reflect.{is_iff, is_eq, false_true}
 use Rattle.items.proofs.opens.Goals as goal
 
 pub returns-then-s-at : goal.returns-then-s-at

@@ -7,8 +7,8 @@ use native.Mathlib.Omega.{arith}
 use lib.ListN.{length}
 use borrow.Author.Rules.{rules}
 use borrow.Author.Tests.{not-true, not-false}
-use Rattle.logic.specs.Agree.{heap_more}
-use Rattle.logic.specs.Reflect.{fails}
+use Rattle.logic.proofs.Agree.{heap_more}
+use Rattle.logic.proofs.Reflect.{fails}
 use Rattle.cells.specs.Cells.{cells, SourceBelow}
 use Rattle.pairs.specs.PairLaws.{inside_short}
 use Rattle.pairs.specs.Steps.{sub_le}

@@ -4,8 +4,8 @@ use mathlib.Core.Logic.{inl, inr}
 use Prim.Native.Nat.{ℕ, ◌<◌}
 use native.Mathlib.Omega.{arith}
 use lib.ListN.{get_or}
-use Rattle.logic.specs.OpenLaws.{read_given, opened, vars_low, locs_low}
-use Rattle.logic.specs.Reflect.{fails}
+use Rattle.logic.proofs.OpenLaws.{read_given, opened, vars_low, locs_low}
+use Rattle.logic.proofs.Reflect.{fails}
 use Rattle.model.specs.Judging.{model_passes, judges_book, judges_range, judged, judges_verdict}
 use Rattle.model.proofs.judge.Goals as goal
 

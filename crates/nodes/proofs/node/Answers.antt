@@ -4,7 +4,7 @@ use mathlib.Core.Logic.{inl, inr, ⊎_elim}
 use native.Mathlib.Omega.{arith}
 use borrow.Author.Tests.{not-true, not-false}
 use Rattle.logic.specs.Checks.{Answers}
-use Rattle.logic.specs.Reflect.{fails}
+use Rattle.logic.proofs.Reflect.{fails}
 use Rattle.nodes.proofs.node.Goals as goal
 
 pub returns-then-not-operands : goal.returns-then-not-operands

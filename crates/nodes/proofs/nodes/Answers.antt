@@ -5,9 +5,10 @@ use Prim.Native.Nat.{ℕ, suc, ◌-◌, ◌/◌, ◌≤◌}
 use native.Mathlib.Omega.{arith}
 use lib.ListN.{length}
 use Rattle.logic.specs.Checks.{upto, Passes}
-use Rattle.logic.specs.CheckLaws.{Yes, passes_none, passes_more, passes_of_yes, upto_refused, answers_passed}
+use Rattle.logic.specs.CheckLaws.{Yes}
+use Rattle.logic.proofs.CheckLaws.{passes_none, passes_more, passes_of_yes, upto_refused, answers_passed}
 use Rattle.logic.specs.Book.{node_checks}
-use Rattle.logic.specs.BookLaws.{node_refuses}
+use Rattle.logic.proofs.BookLaws.{node_refuses}
 use Rattle.nodes.proofs.nodes.Goals as goal
 
 pub loop-left-init : goal.loop-left-init

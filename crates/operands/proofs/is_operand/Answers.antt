@@ -6,7 +6,7 @@ use Prim.Native.Nat.{ℕ}
 use lib.Dec.{ltb}
 use Rattle.logic.specs.Reflect.{Is}
 use Rattle.logic.specs.Table.{Operand}
-use Rattle.logic.specs.TableLaws.{is_zero, is_variable, is_child}
+use Rattle.logic.proofs.TableLaws.{is_zero, is_variable, is_child}
 use Rattle.operands.proofs.is_operand.Goals as goal
 
 pub returns-in-0 : goal.returns-in-0

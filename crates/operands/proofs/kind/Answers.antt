@@ -6,7 +6,7 @@ use Prim.Native.Nat.{ℕ, ◌+◌, ◌-◌}
 use native.Mathlib.Omega.{arith}
 use lib.ListN.{get_or}
 use Rattle.logic.specs.Table.{kind_of}
-use Rattle.operands.specs.KindLaws.{row_right}
+use Rattle.operands.proofs.KindLaws.{row_right}
 use Rattle.operands.proofs.kind.Goals as goal
 
 pub returns : goal.returns

@@ -1,6 +1,6 @@
 -- `operands::operands` meets its contract. Assumes nothing.
 use borrow.Author.Rules.{rules}
-use Rattle.logic.specs.Reflect.{is_iff, fails}
+use Rattle.logic.proofs.Reflect.{is_iff, fails}
 use Rattle.operands.proofs.operands.Goals as goal
 
 pub returns-then-operand : goal.returns-then-operand

@@ -8,8 +8,9 @@ use native.Mathlib.Omega.{arith}
 use borrow.Author.Tests.{not-true, not-false}
 use Rattle.logic.specs.declared.Answer.{Answer}
 use Rattle.logic.specs.Checks.{upto, Passes, Answers}
-use Rattle.logic.specs.CheckLaws.{Yes, passes_none, passes_more, upto_refused, answers_passed}
-use Rattle.logic.specs.Reflect.{fails}
+use Rattle.logic.specs.CheckLaws.{Yes}
+use Rattle.logic.proofs.CheckLaws.{passes_none, passes_more, upto_refused, answers_passed}
+use Rattle.logic.proofs.Reflect.{fails}
 use Rattle.logic.specs.Model.{byte_checks}
 use Rattle.ranges.proofs.first_out.Goals as goal
 

@@ -4,7 +4,8 @@ use Prim.Native.Nat.{ℕ, ◌+◌, ◌<◌}
 use native.Mathlib.Omega.{arith}
 use lib.ListN.{get_or}
 use Rattle.logic.specs.Checks.{upto}
-use Rattle.logic.specs.CheckLaws.{Yes, answers_passed}
+use Rattle.logic.specs.CheckLaws.{Yes}
+use Rattle.logic.proofs.CheckLaws.{answers_passed}
 use Rattle.logic.specs.Model.{byte_checks}
 use Rattle.ranges.specs.RangeLaws.{all_ok}
 use Rattle.ranges.proofs.in_range.Goals as goal

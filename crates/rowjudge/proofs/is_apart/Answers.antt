@@ -2,7 +2,7 @@
 use mathlib.Core.Path.{subst}
 use Rattle.logic.specs.Heap.{Map}
 use Rattle.cells.specs.Cells.{Barred}
-use Rattle.rows.specs.OnSet.{on_heap}
+use Rattle.rows.proofs.OnSet.{on_heap}
 use Rattle.rowjudge.specs.SettingLaws.{on_few}
 use Rattle.rowjudge.specs.RowLaws.{is_apart_met}
 use Rattle.rowjudge.proofs.is_apart.Goals as goal

@@ -1,8 +1,8 @@
 -- `search::search` meets its contract. Assumes nothing.
 use borrow.Author.Rules.{rules}
 use native.Mathlib.Omega.{arith}
-use Rattle.logic.specs.OpenLaws.{read_given, opened}
-use Rattle.logic.specs.SearchLaws.{searches_refused}
+use Rattle.logic.proofs.OpenLaws.{read_given, opened}
+use Rattle.logic.proofs.SearchLaws.{searches_refused}
 use Rattle.search.specs.Searching.{usable, answer_stray, answer_short, rest_passes, write_ready, answer_wrote, answer_kept}
 use Rattle.search.proofs.search.Goals as goal
 

@@ -3,7 +3,7 @@ use borrow.Author.Rules.{rules}
 use mathlib.Core.Path.{◌∙◌, ap}
 use Prim.Native.Nat.{ℕ, ◌^◌}
 use native.Mathlib.Omega.{arith}
-use Rattle.logic.specs.NodeLaws.{atom_operands}
+use Rattle.logic.proofs.NodeLaws.{atom_operands}
 use Rattle.strays.specs.MarkLaws.{marks_atom, marks_join}
 use Rattle.strays.proofs.marks_of.Goals as goal
 

@@ -9,8 +9,9 @@ use borrow.Author.Tests.{not-true, not-false}
 use Rattle.logic.specs.declared.Answer.{Answer}
 use Rattle.logic.specs.Numbers.{answer, stray_variable}
 use Rattle.logic.specs.Checks.{upto, Passes, Answers}
-use Rattle.logic.specs.CheckLaws.{Yes, passes_none, passes_more, upto_refused, answers_passed}
-use Rattle.logic.specs.Reflect.{fails}
+use Rattle.logic.specs.CheckLaws.{Yes}
+use Rattle.logic.proofs.CheckLaws.{passes_none, passes_more, upto_refused, answers_passed}
+use Rattle.logic.proofs.Reflect.{fails}
 use Rattle.logic.specs.Strays.{NamedByAtom, name_checks}
 use Rattle.strays.proofs.named.Goals as goal
 

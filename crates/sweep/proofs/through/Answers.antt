@@ -9,7 +9,7 @@ use Rattle.pairs.specs.Pairs.{Lists}
 use Rattle.candidates.specs.Counter.{Passes}
 use Rattle.candidates.specs.CounterLaws.{total_low}
 use Rattle.skips.specs.Blocks.{weight, after}
-use Rattle.skips.specs.BlockLaws.{after_above, weight_some}
+use Rattle.skips.proofs.BlockLaws.{after_above, weight_some}
 use Rattle.sweep.specs.Sweep.{Going}
 use Rattle.sweep.specs.SweepLaws.{going_start, piece_found, given_nothing, going_past}
 use Rattle.sweep.specs.StartLaws.{low_le, low_lt}

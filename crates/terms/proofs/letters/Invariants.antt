@@ -7,7 +7,7 @@ use Prim.Native.Nat.{ℕ, ◌+◌, ◌*◌, ◌-◌, ◌≤◌, ◌<◌}
 use native.Mathlib.Omega.{arith}
 use lib.ListN.{length, get_or}
 use borrow.Author.Tests.{not-true, not-false}
-use Rattle.grammar.specs.Steps.{onward}
+use Rattle.grammar.proofs.Steps.{onward}
 use Rattle.grammar.specs.Phrase.{letter}
 use Rattle.grammar.specs.Machine.{Frame, Spot, name}
 use Rattle.terms.specs.Letters.{letters_of}

@@ -7,7 +7,8 @@ use native.Mathlib.Omega.{arith}
 use lib.ListN.{length}
 use Rattle.logic.specs.declared.Answer.{Answer}
 use Rattle.logic.specs.Checks.{upto, Passes, Answers}
-use Rattle.logic.specs.CheckLaws.{Yes, passes_none, passes_more, upto_refused, answers_passed}
+use Rattle.logic.specs.CheckLaws.{Yes}
+use Rattle.logic.proofs.CheckLaws.{passes_none, passes_more, upto_refused, answers_passed}
 use Rattle.logic.specs.Table.{uses}
 use Rattle.logic.specs.Book.{nodes, use_checks}
 use Rattle.tree.proofs.one_parent.Given as goal

@@ -5,7 +5,7 @@ use Prim.Native.Nat.{ℕ, ◌-◌, ◌<◌, ◌≤◌}
 use native.Mathlib.Omega.{arith}
 use lib.ListN.{length, get_or}
 use Rattle.logic.specs.Table.{uses}
-use Rattle.logic.specs.TableLaws.{uses_more}
+use Rattle.logic.proofs.TableLaws.{uses_more}
 use Rattle.logic.specs.Book.{most_nodes, nodes}
 use Rattle.uses.specs.CountLaws.{uses_le, none_counted}
 use Rattle.uses.proofs.count.Goals as goal

@@ -5,7 +5,7 @@ use mathlib.Core.Logic.{⊎_elim}
 use Prim.Native.Nat.{◌*◌, ◌≤◌}
 use native.Mathlib.Omega.{arith}
 use Rattle.logic.specs.Table.{op_of, operand_of}
-use Rattle.logic.specs.NodeLaws.{child_operands}
+use Rattle.logic.proofs.NodeLaws.{child_operands}
 use Rattle.uses.specs.CountLaws.{atom_more, not_more, join_more, one_more_low}
 use Rattle.uses.proofs.uses_by.Goals as goal
 

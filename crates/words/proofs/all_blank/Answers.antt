@@ -1,7 +1,7 @@
 -- `words::all_blank` meets its contract. Assumes nothing.
 use borrow.Author.Rules.{rules}
 use borrow.Author.Tests.{eqb-true}
-use Rattle.logic.specs.Reflect.{false_true}
+use Rattle.logic.proofs.Reflect.{false_true}
 use Rattle.words.proofs.all_blank.Goals as goal
 
 pub returns-then-not-is_blank : goal.returns-then-not-is_blank

@@ -9,8 +9,8 @@ use lib.Dec.{eqb}
 use lib.ListN.{get_or, length}
 use borrow.Author.Tests.{eqb-true}
 use Rattle.logic.specs.Tests.{andb}
-use Rattle.logic.specs.Reflect.{is_and, is_eq, is_self}
-use Rattle.logic.specs.Entries.{every, entry_of}
+use Rattle.logic.proofs.Reflect.{is_and, is_eq, is_self}
+use Rattle.logic.proofs.Entries.{every, entry_of}
 use Rattle.words.specs.Words.{spellings}
 use Rattle.words.proofs.letters_of.Goals as goal
 

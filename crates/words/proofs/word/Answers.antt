@@ -7,7 +7,7 @@ use Prim.Native.Nat.{◌+◌, ◌<◌}
 use native.Mathlib.Omega.{arith}
 use lib.ListN.{get_or, drop}
 use borrow.Author.Tests.{not-true, not-false}
-use Rattle.logic.specs.Reflect.{fails}
+use Rattle.logic.proofs.Reflect.{fails}
 use Rattle.words.specs.declared.Next.TheVariants.{At, Bad}
 use Rattle.words.specs.Words.{spellings, Begins, SpelledIs}
 use Rattle.words.specs.WordLaws.{no_word, no_word_end, word_found, word_unended, word_missed}

@@ -4,7 +4,7 @@ use mathlib.Core.Path.{refl}
 use Prim.Native.Nat.{ℕ, ◌<◌}
 use native.Mathlib.Omega.{arith}
 use Rattle.logic.specs.Table.{op_of, operand_of, tree}
-use Rattle.logic.specs.KnownLaws.{operator_some, variables, lower}
+use Rattle.logic.proofs.KnownLaws.{operator_some, variables, lower}
 use Rattle.put.specs.PutsLaws.{puts_puts, puts_as, room_first, room_behind, room_as}
 use Rattle.ownwords.specs.OwnWords.{text, before, between, behind}
 use Rattle.ownwords.specs.OwnWordLaws.{room_to_between, room_to_second}

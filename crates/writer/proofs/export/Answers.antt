@@ -1,7 +1,7 @@
 -- `writer::export` meets its contract. Assumes nothing.
 use borrow.Author.Rules.{rules}
 use native.Mathlib.Omega.{arith}
-use Rattle.logic.specs.OpenLaws.{read_given, opened, vars_low, known}
+use Rattle.logic.proofs.OpenLaws.{read_given, opened, vars_low, known}
 use Rattle.writer.specs.TextLaws.{read_refused, too_short, exported}
 use Rattle.writer.proofs.export.Goals as goal
 

@@ -4,8 +4,9 @@ use mathlib.Core.Path.{◌≡◌, refl, sym, ap, ◌∙◌, ap₂}
 use Prim.Native.Nat.{ℕ, ◌+◌, ◌-◌, ◌*◌, ◌/◌, ◌≤◌}
 use lib.ListN.{length}
 use native.Mathlib.Omega.{arith}
-use Rattle.logic.specs.Weight.{sum, sum_start, sum_more, own_at}
-use Rattle.logic.specs.KnownLaws.{operator_some, counted}
+use Rattle.logic.specs.Weight.{sum, own_at}
+use Rattle.logic.proofs.Weight.{sum_start, sum_more}
+use Rattle.logic.proofs.KnownLaws.{operator_some, counted}
 use Rattle.ownwords.specs.OwnWords.{text, own_byte_count}
 use Rattle.ownwords.specs.OwnWordLaws.{bytes_add}
 use Rattle.writer.proofs.text_length.Goals as goal

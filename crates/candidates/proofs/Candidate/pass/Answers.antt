@@ -1,6 +1,6 @@
 -- `candidates::Candidate::pass` meets its contract. Assumes nothing.
 use native.Mathlib.Omega.{arith}
-use Rattle.logic.specs.CandidateLaws.{stack_in_base, heap_in_base}
+use Rattle.logic.proofs.CandidateLaws.{stack_in_base, heap_in_base}
 use Rattle.candidates.specs.PassLaws.{pass_low, pass_carried}
 use borrow.Author.Rules.{rules}
 use Rattle.candidates.proofs.Candidate.pass.Goals as goal

@@ -1,6 +1,6 @@
 -- `candidates::Candidate::pass_stack` meets its contract. Assumes nothing.
 use native.Mathlib.Omega.{arith}
-use Rattle.logic.specs.CandidateLaws.{stack_in_base}
+use Rattle.logic.proofs.CandidateLaws.{stack_in_base}
 use Rattle.candidates.specs.PassLaws.{pass_stack}
 use borrow.Author.Rules.{rules}
 use Rattle.candidates.proofs.Candidate.pass_stack.Goals as goal

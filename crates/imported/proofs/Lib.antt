@@ -1,0 +1,4 @@
+pub mod NamedLaws
+pub mod ImportedLaws
+pub mod Demands
+pub mod TextProfiles

@@ -1,0 +1,14 @@
+pub mod NothingFits
+pub mod StillFits
+pub mod LargerBudget
+pub mod NeverNone
+pub mod LongerPaths
+pub mod MoreLocations
+pub mod FoundFits
+pub mod SameAnswers
+pub mod Profiles
+pub mod ProfileAnswers
+pub mod RenumberingLaws
+pub mod RenumberedAnswers
+pub mod ExchangeLaws
+pub mod RenumberingExamples

@@ -1,0 +1,5 @@
+pub mod AlikeLaws
+pub mod BookAlike
+pub mod OldPrints
+pub mod OldBooks
+pub mod OldTexts

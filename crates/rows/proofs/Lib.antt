@@ -1,0 +1,11 @@
+pub mod TableLaws
+pub mod LastRow
+pub mod OnSet
+pub mod Sound
+pub mod Symbols
+pub mod PartSets
+pub mod Complete
+pub mod Encoding
+pub mod BoundsLaws
+pub mod OutputLaws
+pub mod Examples

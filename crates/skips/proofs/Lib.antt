@@ -1,0 +1,10 @@
+pub mod DigitRules
+pub mod CountLaws
+pub mod BoundRules
+pub mod RangeLaws
+pub mod Order
+pub mod LowestLaws
+pub mod BlockLaws
+pub mod BlockFacts
+pub mod AfterLaws
+pub mod HereLaws

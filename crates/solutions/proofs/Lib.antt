@@ -1,0 +1,4 @@
+pub mod AssignedLaws
+pub mod ModelOfLaws
+pub mod BytesOfLaws
+pub mod Solutions

@@ -1,0 +1,14 @@
+pub mod ExportLaws
+pub mod WritingLaws
+pub mod DepthLaws
+pub mod TreeLaws
+pub mod TermLaws
+pub mod ZeroLaws
+pub mod CountLaws
+pub mod NumberLaws
+pub mod LimitLaws
+pub mod RoundLaws
+pub mod RoundTrip
+pub mod CallLaws
+pub mod MatchLaws
+pub mod Examples
