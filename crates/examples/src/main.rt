@@ -9,22 +9,29 @@ mod scope; // documents 01 and 02
 mod thesis; // document 003
 
 use report::Tally;
+use std::io;
 
-fn main() {
+fn main(rt: HostRuntime) -> io::Result<()> {
     report::say(
+        &rt,
         b"0 nil, E 0=0, N !E, T (E + N); > points to, ~ list, # different; ! not, & and, + or, - and not, @ septraction\n",
-    );
+    )?;
     let start = Tally {
         lines: 0,
         right: 0,
         beyond: 0,
     };
-    let scope = scope::paths(scope::models(scope::bytes_of_p1(start)));
-    let t = thesis::chapter_7(thesis::chapter_4(thesis::chapter_3(thesis::chapter_2(scope))));
-    io::print_decimal(1, t.lines);
-    report::say(b" examples, ");
-    io::print_decimal(1, t.right);
-    report::say(b" as stated with both judges agreeing, ");
-    io::print_decimal(1, t.beyond);
-    report::say(b" of them beyond the second judge\n");
+    let with_bytes = scope::bytes_of_p1(&rt, start)?;
+    let with_models = scope::models(&rt, with_bytes)?;
+    let with_paths = scope::paths(&rt, with_models)?;
+    let with_chapter_2 = thesis::chapter_2(&rt, with_paths)?;
+    let with_chapter_3 = thesis::chapter_3(&rt, with_chapter_2)?;
+    let with_chapter_4 = thesis::chapter_4(&rt, with_chapter_3)?;
+    let t = thesis::chapter_7(&rt, with_chapter_4)?;
+    rt.print(t.lines)?;
+    report::say(&rt, b" examples, ")?;
+    rt.print(t.right)?;
+    report::say(&rt, b" as stated with both judges agreeing, ")?;
+    rt.print(t.beyond)?;
+    report::say(&rt, b" of them beyond the second judge\n")
 }

@@ -9,6 +9,7 @@ use crate::sweep;
 use crate::sweep::Swept;
 use logic::{MODEL, Profile};
 use notation::{front, front_of_page};
+use std::io;
 
 // More than there are candidates within the second judge's bounds.
 const BUDGET: u64 = 1000000;
@@ -22,8 +23,8 @@ pub struct Tally {
     pub beyond: u64,
 }
 
-pub fn say(words: &[u8]) {
-    io::write_all(1, words);
+pub fn say(rt: &impl Print, words: &[u8]) -> io::Result<()> {
+    rt.write_all(words)
 }
 
 fn counted(t: Tally, right: bool, beyond: bool) -> Tally {
@@ -34,11 +35,11 @@ fn counted(t: Tally, right: bool, beyond: bool) -> Tally {
     }
 }
 
-fn say_stated(stated: bool) {
+fn say_stated(rt: &impl Print, stated: bool) -> io::Result<()> {
     if stated {
-        say(b" | as stated");
+        say(rt, b" | as stated")
     } else {
-        say(b" | NOT AS STATED");
+        say(rt, b" | NOT AS STATED")
     }
 }
 
@@ -63,28 +64,35 @@ fn same_search(book: &[u8], bounds: [u8; 3], swept: Swept) -> bool {
     }
     let w = second::world_of(bounds[1], bounds[2], swept.stack);
     let model = second::model_of(bounds[0], bounds[1], w, swept.heap);
-    a.number == logic::YES && a.tried == swept.first && check::same(&out, &model)
+    a.number == logic::YES && a.tried == swept.first && out == model
 }
 
 // Ends the line: whether the answer is as stated, and whether both judges agree on every candidate and on the search.
-fn end(t: Tally, stated: bool, book: &[u8], bounds: [u8; 3], swept: Swept) -> Tally {
-    say_stated(stated);
+fn end(
+    rt: &impl Print,
+    t: Tally,
+    stated: bool,
+    book: &[u8],
+    bounds: [u8; 3],
+    swept: Swept,
+) -> io::Result<Tally> {
+    say_stated(rt, stated)?;
     if !second::can_judge(bounds) {
-        say(b" | beyond the second judge\n");
-        return counted(t, stated, true);
+        say(rt, b" | beyond the second judge\n")?;
+        return Ok(counted(t, stated, true));
     }
     let agree = swept.same == swept.all && same_search(book, bounds, swept);
     if agree {
-        say(b" | both judges agree on all ");
+        say(rt, b" | both judges agree on all ")?;
     } else {
-        say(b" | THE JUDGES DIFFER, ");
+        say(rt, b" | THE JUDGES DIFFER, ")?;
     }
-    io::print_decimal(1, swept.all);
+    rt.print(swept.all)?;
     if stray(book, bounds) != 0 {
-        say(b", the search refuses a stray variable");
+        say(rt, b", the search refuses a stray variable")?;
     }
-    say(b"\n");
-    counted(t, stated && agree, false)
+    say(rt, b"\n")?;
+    Ok(counted(t, stated && agree, false))
 }
 
 // Whether the second judge says the same of the model that was looked for.
@@ -93,43 +101,58 @@ fn same_model(bounds: [u8; 3], swept: Swept, fits: bool) -> bool {
 }
 
 // The stated number is the search's.
-fn searched(t: Tally, book: &[u8], bounds: [u8; 3], number: u64) -> Tally {
+fn searched(
+    rt: &impl Print,
+    t: Tally,
+    book: &[u8],
+    bounds: [u8; 3],
+    number: u64,
+) -> io::Result<Tally> {
     let wanted = [0u8; MODEL];
     let swept = sweep::sweep(book, &wanted, bounds);
     let mut out = [0u8; MODEL];
     let a = search::search(Profile::Strong, book, BUDGET, &mut out);
-    say(b", tried ");
-    io::print_decimal(1, a.tried);
-    end(t, a.number == number, book, bounds, swept)
+    say(rt, b", tried ")?;
+    rt.print(a.tried)?;
+    end(rt, t, a.number == number, book, bounds, swept)
 }
 
 // The stated number is the judge's, for the model in the first `size` bytes.
 fn judged(
+    rt: &impl Print,
     t: Tally,
     book: &[u8],
     bounds: [u8; 3],
     wanted: &[u8; MODEL],
     size: usize,
     number: u64,
-) -> Tally {
+) -> io::Result<Tally> {
     let swept = sweep::sweep(book, wanted, bounds);
     let a = model::judge(Profile::Strong, book, front(wanted, size));
     let same = same_model(bounds, swept, a.number == logic::YES);
-    end(t, a.number == number && same, book, bounds, swept)
+    end(rt, t, a.number == number && same, book, bounds, swept)
 }
 
 // The assignment in the first `count` bytes satisfies the book's encoding, and the model that is stated for it fits.
 fn assigned(
+    rt: &impl Print,
     t: Tally,
     book: &[u8],
     bounds: [u8; 3],
     values: &[u8; MODEL],
     count: usize,
     wanted: &[u8; MODEL],
-) -> Tally {
+) -> io::Result<Tally> {
     let swept = sweep::sweep(book, wanted, bounds);
     let a = assign::assign(Profile::Strong, book, front(values, count));
-    end(t, a.number == logic::YES && swept.fits, book, bounds, swept)
+    end(
+        rt,
+        t,
+        a.number == logic::YES && swept.fits,
+        book,
+        bounds,
+        swept,
+    )
 }
 
 // Where the byte c next stands, from `from` on; the end if it does not.
@@ -180,8 +203,8 @@ fn stated_number(statement: &[u8]) -> u64 {
     logic::NO
 }
 
-fn run_line(t: Tally, line: &[u8]) -> Tally {
-    say(line);
+fn run_line(rt: &impl Print, t: Tally, line: &[u8]) -> io::Result<Tally> {
+    say(rt, line)?;
     let mut bounds = [0u8; MODEL];
     notation::bytes(field(line, 1), &mut bounds);
     let b = [bounds[0], bounds[1], bounds[2]];
@@ -194,34 +217,40 @@ fn run_line(t: Tally, line: &[u8]) -> Tally {
     let count = notation::bytes(field(line, 4), &mut values);
     let number = stated_number(field(line, 3));
     if model_size == 0 {
-        return searched(t, book, b, number);
+        return searched(rt, t, book, b, number);
     }
     if count == 0 {
-        return judged(t, book, b, &wanted, model_size, number);
+        return judged(rt, t, book, b, &wanted, model_size, number);
     }
-    assigned(t, book, b, &values, count, &wanted)
+    assigned(rt, t, book, b, &values, count, &wanted)
 }
 
 // Runs the examples, one to a line.
-pub fn run(t: Tally, lines: &[u8]) -> Tally {
+pub fn run(rt: &impl Print, t: Tally, lines: &[u8]) -> io::Result<Tally> {
     let mut next = t;
     let mut at = 0;
     while at < lines.len() {
         let end = find(lines, b'\n', at);
-        next = run_line(next, &lines[at..end]);
+        next = run_line(rt, next, &lines[at..end])?;
         at = behind(lines, b'\n', at);
     }
-    next
+    Ok(next)
 }
 
 // Compares the bytes with those that the document states.
-pub fn compared(t: Tally, place: &[u8], got: &[u8], stated: &[u8]) -> Tally {
-    let right = check::same(got, stated);
-    say(place);
-    say(b" | ");
-    io::print_decimal(1, got.len() as u64);
-    say(b" bytes");
-    say_stated(right);
-    say(b"\n");
-    counted(t, right, false)
+pub fn compared(
+    rt: &impl Print,
+    t: Tally,
+    place: &[u8],
+    got: &[u8],
+    stated: &[u8],
+) -> io::Result<Tally> {
+    let right = got == stated;
+    say(rt, place)?;
+    say(rt, b" | ")?;
+    rt.print(got.len())?;
+    say(rt, b" bytes")?;
+    say_stated(rt, right)?;
+    say(rt, b"\n")?;
+    Ok(counted(t, right, false))
 }

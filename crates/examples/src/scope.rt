@@ -3,6 +3,7 @@
 use crate::report::{Tally, compared, run};
 use logic::Profile;
 use notation::front_of_page;
+use std::io;
 
 const P1_BOOK: [u8; 17] = [2, 1, 11, 0, 3, 0, 2, 14, 0, 3, 0, 1, 1, 1, 3, 1, 1];
 
@@ -12,18 +13,19 @@ const P1_ENCODING: [u8; 64] = [
     0, 0,
 ];
 
-pub fn bytes_of_p1(t: Tally) -> Tally {
+pub fn bytes_of_p1(rt: &impl Print, t: Tally) -> io::Result<Tally> {
     let book = P1_BOOK;
     let mut page = [0u8; 256];
     let size = notation::book([1, 1, 1], b"x>x", &mut page);
-    let with_book = compared(t, b"01 P1, the book", front_of_page(&page, size), &book);
+    let with_book = compared(rt, t, b"01 P1, the book", front_of_page(&page, size), &book)?;
     let mut rows = [0u8; 64];
     encoder::encode(Profile::Strong, &book, &mut rows);
     let encoding = P1_ENCODING;
-    let with_rows = compared(with_book, b"01 P1, the encoding", &rows, &encoding);
+    let with_rows = compared(rt, with_book, b"01 P1, the encoding", &rows, &encoding)?;
     let mut printed = [0u8; 256];
     let length = print::put_printed(&book, &mut printed);
     compared(
+        rt,
         with_rows,
         b"01 P1, the text of shape",
         front_of_page(&printed, length),
@@ -31,8 +33,9 @@ pub fn bytes_of_p1(t: Tally) -> Tally {
     )
 }
 
-pub fn models(t: Tally) -> Tally {
+pub fn models(rt: &impl Print, t: Tally) -> io::Result<Tally> {
     run(
+        rt,
         t,
         b"\
 01 P1 | 1 1 1 | x>x | fits 1;1 | 1 1 1
@@ -57,8 +60,9 @@ pub fn models(t: Tally) -> Tally {
 }
 
 // Document 02's path bound: on the model, and not on lists, added heaps or wholes.
-pub fn paths(t: Tally) -> Tally {
+pub fn paths(rt: &impl Print, t: Tally) -> io::Result<Tally> {
     run(
+        rt,
         t,
         b"\
 02 4, a list of two links | 1 2 1 | !x~0 | not 1;20

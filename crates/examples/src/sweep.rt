@@ -38,7 +38,7 @@ fn compare(
         t.stack = w.stack;
         t.heap = h;
     }
-    if check::same(&model, wanted) {
+    if model == *wanted {
         t.fits = fits;
     }
     t

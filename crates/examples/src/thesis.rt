@@ -6,11 +6,13 @@
 // search refuses a variable that no atom names; in the two lines of 3.3 that are about all models, y=y and z=z name them, which
 // hold on the empty heap and change no model.
 use crate::report::{Tally, run};
+use std::io;
 
 // In Example 2.5 the formula is to say that x is allocated. Where x is nil it holds on every heap, since no added heap fits
 // x>0 there; the line against it says so.
-pub fn chapter_2(t: Tally) -> Tally {
+pub fn chapter_2(rt: &impl Print, t: Tally) -> io::Result<Tally> {
     run(
+        rt,
         t,
         b"\
 003 Figure 2.1 | 5 6 6 | ((x~y * u~v) * z>y) | fits 14456;23446-
@@ -32,8 +34,9 @@ pub fn chapter_2(t: Tally) -> Tally {
     )
 }
 
-pub fn chapter_3(t: Tally) -> Tally {
+pub fn chapter_3(rt: &impl Print, t: Tally) -> io::Result<Tally> {
     run(
+        rt,
         t,
         b"\
 003 Example 3.1, unsatisfiable | 2 3 3 | (x>y & x=y) | none
@@ -75,8 +78,9 @@ pub fn chapter_3(t: Tally) -> Tally {
     )
 }
 
-pub fn chapter_4(t: Tally) -> Tally {
+pub fn chapter_4(rt: &impl Print, t: Tally) -> io::Result<Tally> {
     run(
+        rt,
         t,
         b"\
 003 Figure 4.2, the model | 3 3 3 | (x~z * (x~y + z>y)) | fits 132;23-
@@ -98,8 +102,9 @@ pub fn chapter_4(t: Tally) -> Tally {
 
 // In 7.3.1 the formula not_alloc is to say that no variable is allocated. With two variables it does not, by Figure 3.2: x may
 // be allocated in the part that the formula for y gets. So that model is stated to fit.
-pub fn chapter_7(t: Tally) -> Tally {
+pub fn chapter_7(rt: &impl Print, t: Tally) -> io::Result<Tally> {
     run(
+        rt,
         t,
         b"\
 003 7.1, an entailment | 2 3 3 | (x~y - x~y) | none
