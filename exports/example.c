@@ -1,7 +1,7 @@
 /* All twelve calls: eight on one book, x points to itself, with one variable and one location; and four in the ordinary
  * profile, on a book that tells it from the strong one.
  *
- *     cc -Wall -Wextra -Werror -O2 exports/example.c target/staticlib/libexports.a -o target/example && target/example
+ *     cc -Wall -Wextra -Werror -O2 exports/example.c crates/exports/out/libexports.a -o crates/exports/out/example && crates/exports/out/example
  */
 #include <inttypes.h>
 #include <stdio.h>

@@ -1,4 +1,4 @@
-/* The proved bench, for C. Link libexports.a, which `rt staticlib exports` leaves in target/staticlib.
+/* The proved bench, for C. Link libexports.a, which `rt lib`, run in crates/exports, leaves in crates/exports/out.
  *
  * Each call takes any bytes at all. A slice is a pointer and a length; the pointer is never null, even where the length is
  * 0, and an output overlaps nothing else. Nothing is kept after a call. Documents 01 and 02 say what each call answers. */

@@ -8,7 +8,7 @@ use hollyspool::{MOST_BOOK, MOST_ENCODED, MOST_MODEL, MOST_TEXT};
 const C: &str = concat!(env!("CARGO_MANIFEST_DIR"), "/../../exports");
 const ARCHIVE: &str = concat!(
     env!("CARGO_MANIFEST_DIR"),
-    "/../../target/staticlib/libexports.a"
+    "/../../crates/exports/out/libexports.a"
 );
 
 const OUTPUT: &str = "\

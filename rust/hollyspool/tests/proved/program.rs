@@ -6,7 +6,7 @@ use std::process::{Command, Stdio};
 
 use cases::line::{about, Call};
 
-const PROGRAM: &str = concat!(env!("CARGO_MANIFEST_DIR"), "/../../target/bin/shape");
+const PROGRAM: &str = concat!(env!("CARGO_MANIFEST_DIR"), "/../../crates/shape/out/shape");
 
 #[test]
 fn shape_lines() {
@@ -17,7 +17,7 @@ fn shape_lines() {
 
 /// What the program prints for an input.
 fn printed(input: &[u8]) -> Vec<u8> {
-    assert!(Path::new(PROGRAM).exists(), "run `rt check shape` first");
+    assert!(Path::new(PROGRAM).exists(), "run `rt run < stdin` in crates/shape first");
     let mut shape = Command::new(PROGRAM)
         .stdin(Stdio::piped())
         .stdout(Stdio::piped())
