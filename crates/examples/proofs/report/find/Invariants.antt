@@ -1,5 +1,5 @@
 -- What the loops keep, and what falls.
-use Rattle.std.proofs.Common.{◌-◌, ◌≤◌, length, rules}
+use Rattle.std.proofs.Common.{◌-◌, ◌≤◌, length}
 use Rattle.examples.proofs.report.find.Given as goal
 
 abbrev pub invariant-loop-i : goal.invariant-loop-i
