@@ -1,5 +1,4 @@
 -- `shape::main` meets its contract. Assumes nothing.
-use borrow.Author.Rules.{rules}
 use mathlib.Core.Path.{sym}
 use lib.Seq.{length-take-le}
 use Rattle.print.specs.PrintsLaws.{printed_within}
