@@ -12,6 +12,8 @@ fn main() {
         println!("cargo::rustc-link-search=native={}", folder.display());
         println!("cargo::rustc-link-lib=static=exports");
     } else {
-        println!("cargo::error=no crates/exports/out/libexports.a: run `rt lib` in crates/exports first");
+        println!(
+            "cargo::error=no crates/exports/out/libexports.a: run `rt lib` in crates/exports first"
+        );
     }
 }

@@ -17,7 +17,10 @@ fn shape_lines() {
 
 /// What the program prints for an input.
 fn printed(input: &[u8]) -> Vec<u8> {
-    assert!(Path::new(PROGRAM).exists(), "run `rt run < stdin` in crates/shape first");
+    assert!(
+        Path::new(PROGRAM).exists(),
+        "run `rt run < stdin` in crates/shape first"
+    );
     let mut shape = Command::new(PROGRAM)
         .stdin(Stdio::piped())
         .stdout(Stdio::piped())
