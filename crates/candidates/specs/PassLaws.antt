@@ -1,11 +1,11 @@
 -- The number of the first candidate after a block. Assumes nothing.
 use Rattle.std.specs.Prelude.{◌≡◌, refl, ℕ, ◌+◌, ◌-◌, ◌*◌, ◌/◌, ◌%◌, ◌^◌, ◌<◌, ◌≤◌}
-use Rattle.std.proofs.Common.{sym, subst, ◌∙◌, zero-mul, mul-one, div-one, div-mul-le_self, arith}
+use Rattle.std.proofs.Common.{sym, ◌∙◌, zero-mul, mul-one, div-one, div-mul-le_self, arith}
 use Rattle.std.proofs.Math.Path.{ap, ap₂}
 use Rattle.std.proofs.Math.Nat.{mod-eq_of_lt, mod_self, pow-zero, one-le-pow}
 use Rattle.std.proofs.Math.Decide.{dec_lt}
 use Rattle.std.proofs.Math.Arith.{digits_lt}
-use Rattle.logic.specs.Heap.{Stack, Heap}
+use Rattle.logic.specs.Heap.{Stack}
 use Rattle.logic.specs.Candidates.{value_of, total}
 use Rattle.logic.proofs.NumberLaws.{value_lt}
 use Rattle.logic.proofs.CandidateLaws.{stack_in_base, in_base_stack, heap_in_base, in_base_heap}

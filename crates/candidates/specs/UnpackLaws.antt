@@ -6,7 +6,7 @@ use Rattle.std.proofs.Math.Nat.{pow-zero, div-div-eq-div-mul}
 use Rattle.std.proofs.Math.Decide.{dec_le, ℕ_discrete}
 use Rattle.std.specs.Int.Bits.{bit_or}
 use Rattle.std.proofs.lemmas.Bool.{lt-leb}
-use Rattle.logic.specs.Heap.{Map, Stack, Heap}
+use Rattle.logic.specs.Heap.{Stack, Heap}
 use Rattle.logic.specs.Tests.{pick}
 use Rattle.logic.specs.Candidates.{total, digits_of, stack_of, number_of}
 use Rattle.logic.proofs.NumberLaws.{digits_at_is, digits_past, digits_nil, digits_in_base}
@@ -15,7 +15,6 @@ use Rattle.cells.specs.Cells.{most, cells, Placed}
 use Rattle.cells.specs.Bits.{digit_is}
 use Rattle.cells.specs.Packing.{cells_zero}
 use Rattle.cells.specs.Heaps.{put_at}
-use Rattle.candidates.specs.declared.Candidate.{Candidate}
 use Rattle.candidates.specs.Counter.{Unpacks, WithinBounds, number}
 use Rattle.candidates.specs.CounterLaws.{candidate}
 

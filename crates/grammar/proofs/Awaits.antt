@@ -2,14 +2,12 @@
 use Rattle.std.specs.Prelude.{◌≡◌, Bool, true, false, List, [], ◌∷◌, ◌++◌, ◌⊎◌, eqb, length}
 use Rattle.std.proofs.Math.Path.{refl}
 use Rattle.std.proofs.Common.{◌∙◌, eqb-true}
-use Prim.Native.Nat.{ℕ, suc, ◌+◌, ◌-◌, ◌<◌}
-use Rattle.logic.specs.Checks.{upto}
+use Prim.Native.Nat.{ℕ, suc, ◌<◌}
 use Rattle.grammar.specs.Phrase.{Word, joins, denies, relates, Term, Phrase, join, deny, relate, spelling, sep_nil, Name, choose}
 use Rattle.grammar.specs.Grammar.{Event, deepest, Byte, Spelt, Blanks, Edge, Stands, Reads}
 use Rattle.grammar.specs.Grammar.Blanks.{no_blank}
 use Rattle.grammar.specs.Grammar.Reads.{a_join, a_denial, a_relation}
-use Rattle.grammar.specs.Places.{before}
-use Rattle.grammar.specs.Machine.{Frame, only_one, first_of, second_of, Spot, start, later, Mode, item, gap, empty, head, word, arg, name, nil, shut, over, shuts, dead}
+use Rattle.grammar.specs.Machine.{Frame, only_one, first_of, second_of, Spot, start, later, Mode, item, gap, empty, head, word, arg, name, nil, shut, over, dead}
 use Rattle.grammar.specs.Forward.{lettered}
 
 module _ (w : List ℕ) where

@@ -1,11 +1,10 @@
 -- What the machine reads, the text means. The text is w. Assumes nothing.
-use Rattle.std.specs.Prelude.{◌≡◌, refl, Bool, ◌⊎◌, ℕ, suc, ◌+◌, ◌-◌, ◌≤◌, zero, eqb, leb, length, get_or, drop}
+use Rattle.std.specs.Prelude.{◌≡◌, refl, Bool, ◌⊎◌, ℕ, suc, ◌+◌, ◌≤◌, zero, eqb, leb, length, get_or, drop}
 use Rattle.std.proofs.Common.{sym, ap, ◌∙◌, arith, leb-true}
 use Rattle.std.proofs.Math.Path.{subst}
 use Rattle.std.proofs.Math.Bool.{true, false}
 use mathlib.Core.List.{List, [], ◌∷◌, ◌++◌, append-nil, append_assoc}
 use Rattle.std.proofs.Math.Logic.{inl, inr, ⊎_elim}
-use Rattle.logic.specs.Checks.{upto}
 use Rattle.logic.proofs.Reflect.{false_true, is_same_bytes}
 use Rattle.logic.specs.Tests.{same_bytes}
 use Rattle.grammar.specs.Phrase.{Word, joins, denies, relates, Term, nil_term, name_term, Phrase, emp, relate, spelling, lower, letter, sep_nil, Name, bytes}
@@ -17,7 +16,6 @@ use Rattle.grammar.specs.Grammar.Blanks.{no_blank, a_blank}
 use Rattle.grammar.specs.Grammar.Edge.{at_end, at_blank, at_open, at_close}
 use Rattle.grammar.specs.Grammar.Stands.{a_nil, a_name}
 use Rattle.grammar.specs.Grammar.Reads.{an_emp}
-use Rattle.grammar.specs.Places.{before}
 use Rattle.grammar.specs.Machine.{Frame, only_one, first_of, second_of, Spot, start, later, Mode, item, gap, empty, head, word, arg, name, nil, shut, over, words, reserved, viable, past, termed, begun, step, out, read, emits, ending, alive, run, dead, closing, opened}
 use Rattle.grammar.specs.Traces.{events_of, phrase_of_trace, whole}
 use Rattle.grammar.proofs.Traces.{ends, emitted, whole_emits, whole_alive}

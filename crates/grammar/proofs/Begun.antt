@@ -1,5 +1,5 @@
 -- The letters of a name that are read can go on to a name. Assumes nothing.
-use Rattle.std.specs.Prelude.{◌≡◌, refl, Bool, true, false, List, [], ◌∷◌, ◌++◌, ◌⊎◌, ℕ, suc, ◌+◌, ◌-◌, ◌≤◌, ◌<◌, zero, eqb, leb, ltb, length, get_or}
+use Rattle.std.specs.Prelude.{◌≡◌, refl, Bool, true, false, List, [], ◌∷◌, ◌++◌, ◌⊎◌, ℕ, suc, ◌≤◌, ◌<◌, zero, eqb, leb, ltb, length, get_or}
 use Rattle.std.proofs.Common.{sym, ap, ◌∙◌, subst, inl, inr, eq-or-lt_of_le, le_of_suc-le-suc, add-one, arith, length-append, get_or-append-add, eqb-true, ltb-true}
 use Rattle.std.proofs.Math.ListN.{get_or-append}
 use Rattle.logic.proofs.Reflect.{false_true}

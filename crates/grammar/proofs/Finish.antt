@@ -1,5 +1,5 @@
 -- What was read up to any byte, and could stand there, can be made a well-formed text. Assumes nothing.
-use Rattle.std.specs.Prelude.{◌≡◌, refl, Bool, true, false, List, [], ◌∷◌, ◌++◌, ℕ, suc, ◌+◌, ◌-◌, eqb}
+use Rattle.std.specs.Prelude.{◌≡◌, refl, Bool, true, false, List, [], ◌∷◌, ◌++◌, ℕ, suc, eqb}
 use Rattle.std.proofs.Common.{sym, ◌∙◌, subst, eq-eqb}
 use Rattle.logic.proofs.Reflect.{false_true, is_same_bytes}
 use Rattle.logic.specs.Tests.{same_bytes}

@@ -19,7 +19,6 @@ use Rattle.grammar.specs.Grammar.Blanks.{no_blank, a_blank}
 use Rattle.grammar.specs.Grammar.Edge.{at_end, at_blank, at_open, at_close}
 use Rattle.grammar.specs.Grammar.Stands.{a_nil, a_name}
 use Rattle.grammar.specs.Grammar.Reads.{an_emp, a_join, a_denial, a_relation}
-use Rattle.grammar.specs.Places.{before}
 use Rattle.grammar.specs.Machine.{Frame, only_one, first_of, second_of, Spot, start, later, item, gap, empty, head, word, arg, name, nil, shut, over, words, reserved, viable, past, termed, begun, step, own, shuts, out, read, event, emits, ending, alive, run}
 use Rattle.grammar.proofs.Spellings.{lower_no_blank, other, blank_no_letter, none_among}
 use Rattle.grammar.specs.Traces.{events_of, phrase_of_trace}

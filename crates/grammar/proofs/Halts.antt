@@ -1,5 +1,5 @@
 -- The machine over a part of a text, and where it stops. Assumes nothing.
-use Rattle.std.specs.Prelude.{◌≡◌, Bool, false, ℕ, suc, ◌+◌, ◌-◌, ◌≤◌, ◌<◌}
+use Rattle.std.specs.Prelude.{◌≡◌, Bool, false, ℕ, suc, ◌+◌, ◌≤◌, ◌<◌}
 use Rattle.std.proofs.Math.Path.{refl, sym, ap, subst}
 use Rattle.std.proofs.Common.{◌∙◌, arith}
 use Rattle.std.proofs.Math.Bool.{true}
@@ -7,14 +7,12 @@ use mathlib.Core.List.{List, [], ◌∷◌, ◌++◌, append_assoc}
 use Rattle.std.proofs.Math.ListN.{length, length-append, take}
 use Rattle.std.proofs.Math.Seq.{take_at}
 use Rattle.logic.proofs.Reflect.{false_true, is_and, is_self}
-use Rattle.logic.specs.Tests.{andb}
 use Rattle.grammar.specs.Phrase.{Phrase}
 use Rattle.grammar.specs.Grammar.{Event, Means}
 use Rattle.grammar.specs.Places.{Goes, BadAt}
-use Rattle.grammar.specs.Machine.{Mode, item, step, out, bad, emits, ending, alive, run}
+use Rattle.grammar.specs.Machine.{Mode, item, step, out, bad, emits, alive, run}
 use Rattle.grammar.specs.Traces.{events_of, phrase_of_trace, whole}
 use Rattle.grammar.proofs.Traces.{ends_bad, emits_emits, whole_emits}
-use Rattle.grammar.proofs.Steps.{goes}
 use Rattle.grammar.specs.Begun.{Fine}
 use Rattle.grammar.proofs.Begun.{fine_step}
 use Rattle.grammar.proofs.Back.{means_run, whole_means}

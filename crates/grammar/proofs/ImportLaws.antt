@@ -1,18 +1,17 @@
 -- The import's statement allows one result, and the book that it writes is accepted and has the formula that the text means.
 -- Assumes nothing.
-use Rattle.std.specs.Prelude.{◌≡◌, List, [], ◌++◌, ◌⊎◌, ℕ, ◌-◌, ◌≤◌, ◌<◌, length}
+use Rattle.std.specs.Prelude.{◌≡◌, List, [], ◌++◌, ℕ, ◌≤◌, ◌<◌, length}
 use Rattle.std.proofs.Math.Path.{refl, ap}
 use Rattle.std.proofs.Common.{sym, ap₂, ◌∙◌, subst, append-nil, ⊎_elim, arith}
 use Rattle.std.proofs.Math.Logic.{inl, inr}
 use Rattle.std.proofs.Math.Decide.{ℕ_discrete}
 use Rattle.std.proofs.Math.ListN.{drop}
 use Rattle.grammar.proofs.NumberLaws.{all_in, all_within}
-use Rattle.logic.specs.Book.{most, most_nodes, nodes, book_formula, Accepted}
+use Rattle.logic.specs.Book.{most, most_nodes, book_formula, Accepted}
 use Rattle.logic.specs.CheckLaws.{Single}
 use Rattle.logic.proofs.CheckLaws.{answers_single}
 use Rattle.logic.specs.Checks.{Answers}
 use Rattle.logic.specs.Numbers.{answer, yes_number, bounds, output_length}
-use Rattle.logic.specs.Tests.{same_bytes}
 use Rattle.logic.specs.declared.Answer.{Answer}
 use Rattle.grammar.specs.Phrase.{Phrase}
 use Rattle.grammar.specs.Places.{ComplaintWithin, bad_at, passes_at, name_over_at}

@@ -3,7 +3,6 @@ use Rattle.std.specs.Prelude.{◌≡◌, refl, List, [], ◌∷◌, ◌++◌, �
 use Rattle.std.proofs.Common.{sym, ap, ◌∙◌, subst, append_assoc, arith, length-append, get_or-append-add}
 use Rattle.logic.specs.Formula.{Form}
 use Rattle.logic.specs.Formula.Form.{same, diff, pts, ls, conj, disj, but, neg, sep, sept}
-use Rattle.logic.specs.Table.{op_of, operand_of}
 use Rattle.grammar.specs.Listing.{size_of, both, listing}
 use Rattle.grammar.specs.ListingLaws.{Node, Two, Has}
 

@@ -1,5 +1,5 @@
 -- The first limit that is passed is the lowest, and there is no other at its place. Assumes nothing.
-use Rattle.std.specs.Prelude.{◌≡◌, refl, Bool, true, false, not, List, [], ◌∷◌, ◌++◌, ◌⊎◌, ℕ, suc, ◌+◌, ◌-◌, ◌≤◌, ◌<◌, eqb, leb, length}
+use Rattle.std.specs.Prelude.{◌≡◌, refl, Bool, true, false, not, List, [], ◌∷◌, ◌++◌, ℕ, suc, ◌+◌, ◌≤◌, ◌<◌, eqb, leb, length}
 use Rattle.std.proofs.Common.{sym, ◌∙◌, inl, inr, ⊎_elim, arith, length-append, eqb-true, leb-true, leb-false}
 use Rattle.std.proofs.lemmas.Bool.{eqb-false}
 use Rattle.logic.specs.Book.{most, most_nodes}
@@ -12,7 +12,7 @@ use Rattle.grammar.specs.Places.{known, note, PassesAt, NameOverAt}
 use Rattle.grammar.specs.Places.PassesAt.{passing, past_item, past_name}
 use Rattle.grammar.specs.Places.NameOverAt.{one_over, after_name, after_item}
 use Rattle.grammar.specs.Machine.{Trace, emits}
-use Rattle.grammar.specs.Outcome.{refused, outcome, nodes_from, names_from}
+use Rattle.grammar.specs.Outcome.{outcome, nodes_from, names_from}
 use Rattle.grammar.specs.Sorted.{Sorted}
 use Rattle.grammar.specs.LowestLaws.{Excess, names_first, nodes_first, Sifted}
 

@@ -1,6 +1,6 @@
 -- The numbers of names: later names change none of them, and no formula has one that is over how many names there are. Assumes
 -- nothing.
-use Rattle.std.specs.Prelude.{◌≡◌, refl, Bool, true, false, List, [], ◌∷◌, ◌++◌, ℕ, suc, ◌+◌, ◌-◌, ◌≤◌, ◌<◌, length, ltb}
+use Rattle.std.specs.Prelude.{◌≡◌, refl, Bool, true, false, List, [], ◌∷◌, ◌++◌, ℕ, suc, ◌≤◌, ◌<◌, length, ltb}
 use Rattle.std.proofs.Common.{sym, ap, ap₂, ◌∙◌, subst, append-nil, append_assoc, arith, lt-ltb, le-ltb, ltb-true, ltb-false}
 use Rattle.grammar.specs.ListingLaws.{Within}
 use Rattle.logic.specs.Formula.{Form}

@@ -1,5 +1,5 @@
 -- 26 has one place, and what is finished before it is one list, whatever text goes on from there. Assumes nothing.
-use Rattle.std.specs.Prelude.{◌≡◌, refl, Bool, true, false, List, [], ◌∷◌, ◌++◌, ◌⊎◌, ℕ, suc, ◌+◌, ◌-◌, ◌≤◌, ◌<◌, eqb, ltb, length, drop, take}
+use Rattle.std.specs.Prelude.{◌≡◌, refl, Bool, true, false, List, [], ◌∷◌, ◌++◌, ◌⊎◌, ℕ, suc, ◌+◌, ◌≤◌, ◌<◌, eqb, ltb, length, drop, take}
 use Rattle.std.proofs.Common.{sym, ap, ap₂, ◌∙◌, subst, append-nil, append_assoc, inl, inr, ⊎_elim, arith, take-append-drop, take_at, take-take, lt-ltb, le-ltb}
 use Rattle.std.proofs.Math.Decide.{dec_lt}
 use Rattle.grammar.specs.Phrase.{letter, choose}
@@ -8,7 +8,6 @@ use Rattle.grammar.specs.Places.{Goes, BadAt, finished_by, before, Finished, all
 use Rattle.grammar.specs.Machine.{Spot, start, later, Mode, item, gap, empty, head, word, arg, name, nil, shut, over, step, shuts, out, Trace, bad, emits, alive, run, dead}
 use Rattle.grammar.specs.Traces.{events_of, phrase_of_trace, whole}
 use Rattle.grammar.proofs.Traces.{ending_none, bad_none, emitted, events_emits}
-use Rattle.grammar.proofs.Steps.{goes}
 use Rattle.grammar.proofs.Forward.{run_means}
 use Rattle.grammar.proofs.Back.{means_run}
 use Rattle.grammar.specs.Halts.{after, during, Halt}

@@ -10,7 +10,6 @@ use Rattle.logic.specs.Model.{stack_in, heap_in}
 use Rattle.logic.specs.Computed.{laid_out, bounds_ok, formula_ok, operand_ok, node_ok, table_ok, accepted, model_ok, fits_book}
 use Rattle.logic.specs.JudgeExamples.{JudgedRight, judged_test}
 use Rattle.logic.proofs.JudgeExamples.{judged_right}
-use Rattle.grammar.specs.Phrase.{bytes}
 use Rattle.grammar.specs.ProfileExample.{beside_formula}
 
 abbrev beside_book : List ℕ

@@ -1,15 +1,12 @@
 -- Events come in the order of their bytes, no two of them at one place. Assumes nothing.
-use Rattle.std.specs.Prelude.{◌≡◌, refl, Bool, true, false, List, [], ◌∷◌, ◌++◌, ℕ, suc, ◌+◌, ◌-◌, ◌≤◌, ◌<◌, eqb, leb, length}
+use Rattle.std.specs.Prelude.{◌≡◌, refl, Bool, true, false, List, [], ◌∷◌, ◌++◌, ℕ, suc, ◌+◌, ◌-◌, ◌≤◌, eqb, leb, length}
 use Rattle.std.proofs.Common.{sym, subst, arith, length-append}
 use Rattle.logic.specs.Tests.{same_bytes}
-use Rattle.grammar.specs.Phrase.{Join, Word, joins, denies, relates, Term, nil_term, name_term, Phrase, emp, relate, spelling, lower, letter, bytes, choose}
-use Rattle.grammar.specs.Phrase.Join.{sep_word}
+use Rattle.grammar.specs.Phrase.{Join, Word, joins, denies, relates, Term, Phrase, relate, spelling, lower, letter, bytes, choose}
 use Rattle.grammar.specs.Grammar.{Event, named, finished, adds, deepest, blank}
-use Rattle.grammar.specs.Grammar.Edge.{at_end}
-use Rattle.grammar.specs.Machine.{Frame, only_one, first_of, second_of, Spot, start, later, Mode, item, gap, empty, head, word, arg, name, nil, shut, over, words, reserved, viable, past, termed, begun, step, own, shuts, out, bad, emits, alive, run, dead, closing, opened}
+use Rattle.grammar.specs.Machine.{Frame, Spot, start, later, Mode, item, gap, empty, head, word, arg, name, nil, shut, over, words, reserved, viable, past, termed, begun, step, own, shuts, out, bad, emits, alive, run, dead, closing, opened}
 use Rattle.grammar.specs.Traces.{events_of}
 use Rattle.grammar.proofs.Traces.{ending_none, bad_none, events_emits}
-use Rattle.grammar.proofs.Steps.{ended}
 use Rattle.grammar.specs.Begun.{Fine}
 use Rattle.grammar.proofs.Begun.{fine_step}
 use Rattle.grammar.specs.Sorted.{Sorted, Since, Onward}

@@ -1,5 +1,5 @@
 -- Bytes, words and names that are not each other. Assumes nothing.
-use Rattle.std.specs.Prelude.{◌≡◌, refl, Bool, true, false, List, [], ◌∷◌, ℕ, ◌-◌, eqb}
+use Rattle.std.specs.Prelude.{◌≡◌, refl, Bool, true, false, List, [], ◌∷◌, ℕ, eqb}
 use Rattle.std.proofs.Common.{sym, ◌∙◌, subst, ⊎_elim, ne_eqb}
 use Rattle.logic.proofs.Reflect.{false_true, is_or, is_eq, is_same_bytes, refutes}
 use Rattle.logic.specs.Tests.{same_bytes}

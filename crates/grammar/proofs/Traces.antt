@@ -1,8 +1,8 @@
 -- What a text comes to, with what is finished on the way. Assumes nothing.
-use Rattle.std.specs.Prelude.{◌≡◌, refl, Bool, true, false, List, [], ◌∷◌, ◌++◌, ◌⊎◌, ℕ, ◌+◌, ◌-◌}
+use Rattle.std.specs.Prelude.{◌≡◌, refl, Bool, true, false, List, [], ◌∷◌, ◌++◌, ◌⊎◌, ℕ}
 use Rattle.std.proofs.Common.{sym, ap, ◌∙◌, inl, inr, ⊎_elim}
 use Rattle.logic.proofs.Reflect.{false_true}
-use Rattle.grammar.specs.Phrase.{Phrase, emp, choose}
+use Rattle.grammar.specs.Phrase.{Phrase, choose}
 use Rattle.grammar.specs.Grammar.{Event}
 use Rattle.grammar.specs.Machine.{Mode, item, gap, empty, head, word, arg, name, nil, shut, over, dead, ending, Trace, read, bad, event, emits}
 use Rattle.grammar.specs.Traces.{events_of, phrase_of_trace, whole}

@@ -1,12 +1,12 @@
 -- What the machine says of a text is what the definitions say: the formula that it means, or its lowest complaint; and there is
 -- only one. Assumes nothing.
-use Rattle.std.specs.Prelude.{◌≡◌, refl, ◌⊎◌, ℕ, suc, ◌+◌, ◌-◌, ◌≤◌, ◌<◌, length}
+use Rattle.std.specs.Prelude.{◌≡◌, refl, ◌⊎◌, ℕ, suc, ◌+◌, ◌≤◌, ◌<◌, length}
 use Rattle.std.proofs.Common.{sym, ap, ◌∙◌, inl, inr, eq-or-lt_of_le, arith}
 use Rattle.std.proofs.Math.Path.{subst}
 use Rattle.std.proofs.Math.Bool.{true}
 use mathlib.Core.List.{List, [], ◌∷◌}
 use Rattle.std.proofs.Math.Logic.{⊎_elim}
-use Rattle.logic.specs.Book.{most, most_nodes}
+use Rattle.logic.specs.Book.{most}
 use Rattle.logic.specs.Numbers.{many_nodes, many_names, bad_text}
 use Rattle.grammar.specs.Phrase.{Phrase}
 use Rattle.grammar.specs.Grammar.{Event, named, finished, Means}
@@ -14,7 +14,7 @@ use Rattle.grammar.specs.Places.{BadAt, Finished, note, PassesAt, NameOverAt, Co
 use Rattle.grammar.specs.Places.PassesAt.{passing, past_item, past_name}
 use Rattle.grammar.specs.Places.NameOverAt.{one_over, after_name, after_item}
 use Rattle.grammar.specs.Machine.{item, read, bad, emits}
-use Rattle.grammar.specs.Outcome.{refused, outcome, Outcome, taken, nodes_from, names_from}
+use Rattle.grammar.specs.Outcome.{refused, outcome, Outcome, taken}
 use Rattle.grammar.specs.Traces.{events_of, phrase_of_trace, whole}
 use Rattle.grammar.proofs.Traces.{whole_is}
 use Rattle.grammar.proofs.Back.{means_run}

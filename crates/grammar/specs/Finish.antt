@@ -1,14 +1,7 @@
 -- What proofs/Finish speaks of. Assumes nothing: these are definitions.
-use Rattle.std.specs.Prelude.{◌≡◌, refl, Bool, true, false, List, [], ◌∷◌, ◌++◌, ℕ, suc, ◌+◌, ◌-◌, eqb}
-use Rattle.std.proofs.Common.{sym, ◌∙◌, subst, eq-eqb}
-use Rattle.logic.proofs.Reflect.{false_true, is_same_bytes}
-use Rattle.logic.specs.Tests.{same_bytes}
-use Rattle.grammar.specs.Phrase.{Word, joins, denies, relates, Term, nil_term, name_term, Phrase, emp, join, deny, relate, spelling, Atom, bytes, choose}
-use Rattle.grammar.specs.Phrase.Join.{and_word, or_word, sep_word, wand_word}
-use Rattle.grammar.specs.Phrase.Atom.{equal_word, distinct_word, pto_word, ls_word}
-use Rattle.grammar.specs.Machine.{Frame, only_one, first_of, second_of, Spot, start, later, Mode, item, gap, empty, head, word, arg, name, nil, shut, over, words, among, reserved, viable, past, begun, step, out, ending, alive, run, dead}
-use Rattle.grammar.specs.Traces.{whole}
-use Rattle.grammar.specs.Begun.{Fine}
+use Rattle.std.specs.Prelude.{List, [], ◌∷◌, ◌++◌, ℕ}
+use Rattle.grammar.specs.Phrase.{Word, joins, denies, relates, choose}
+use Rattle.grammar.specs.Machine.{Frame, only_one, first_of, second_of, Spot, start, later, Mode, item, gap, empty, head, word, arg, name, nil, shut, over, reserved, dead}
 
 -- bytes that close the lists σ after a formula, and after a term
 unfoldable pub closing_bytes : List Frame → List ℕ

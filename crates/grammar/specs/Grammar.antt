@@ -1,6 +1,6 @@
 -- Which formula a text means, without a parser. The text is w; `from i up to j` leaves j out. Assumes nothing: these are
 -- definitions.
-use Rattle.std.specs.Prelude.{◌≡◌, Bool, true, List, [], ◌∷◌, ◌++◌, ℕ, suc, ◌+◌, ◌-◌, ◌<◌, eqb, length, get_or}
+use Rattle.std.specs.Prelude.{◌≡◌, Bool, true, List, [], ◌∷◌, ◌++◌, ℕ, suc, ◌-◌, ◌<◌, eqb, length, get_or}
 use Prim.Native.Char.{code}
 use Rattle.logic.specs.Tests.{orb}
 use Rattle.grammar.specs.Phrase.{Join, Atom, Word, joins, denies, relates, Term, nil_term, name_term, Phrase, emp, join, deny, relate, spelling, sep_emp, sep_nil, Name}

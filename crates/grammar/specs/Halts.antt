@@ -1,20 +1,10 @@
 -- What proofs/Halts speaks of. Assumes nothing: these are definitions.
-use Rattle.std.specs.Prelude.{◌≡◌, Bool, false, ℕ, suc, ◌+◌, ◌-◌, ◌≤◌, ◌<◌}
-use Rattle.std.proofs.Math.Path.{refl, sym, ap, subst}
-use Rattle.std.proofs.Common.{◌∙◌, arith}
+use Rattle.std.specs.Prelude.{◌≡◌, Bool, false, ℕ, suc}
 use Rattle.std.proofs.Math.Bool.{true}
-use mathlib.Core.List.{List, [], ◌∷◌, ◌++◌, append_assoc}
-use Rattle.std.proofs.Math.ListN.{length, length-append, take}
-use Rattle.std.proofs.Math.Seq.{take_at}
-use Rattle.logic.proofs.Reflect.{false_true, is_and, is_self}
+use mathlib.Core.List.{List, [], ◌∷◌, ◌++◌}
 use Rattle.logic.specs.Tests.{andb}
-use Rattle.grammar.specs.Phrase.{Phrase}
-use Rattle.grammar.specs.Grammar.{Event, Means}
-use Rattle.grammar.specs.Places.{Goes, BadAt}
-use Rattle.grammar.specs.Machine.{Mode, item, step, out, bad, emits, ending, alive, run}
-use Rattle.grammar.specs.Traces.{events_of, phrase_of_trace, whole}
-use Rattle.grammar.specs.Begun.{Fine}
-use Rattle.grammar.specs.Finish.{finish}
+use Rattle.grammar.specs.Grammar.{Event}
+use Rattle.grammar.specs.Machine.{Mode, step, out, bad, ending, alive}
 
 -- the mode after the bytes x, what is finished on the way, and whether all of them may stand there
 unfoldable pub after : Mode → List ℕ → Mode

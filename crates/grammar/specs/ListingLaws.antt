@@ -1,10 +1,9 @@
 -- What proofs/ListingLaws speaks of. Assumes nothing: these are definitions.
-use Rattle.std.specs.Prelude.{◌≡◌, refl, List, [], ◌∷◌, ◌++◌, ℕ, ◌+◌, ◌-◌, ◌≤◌, ◌*◌, length, get_or}
-use Rattle.std.proofs.Common.{sym, ap, ◌∙◌, subst, append_assoc, arith, length-append, get_or-append-add}
+use Rattle.std.specs.Prelude.{◌≡◌, List, ℕ, ◌+◌, ◌-◌, ◌≤◌}
 use Rattle.logic.specs.Formula.{Form}
 use Rattle.logic.specs.Formula.Form.{same, diff, pts, ls, conj, disj, but, neg, sep, sept}
 use Rattle.logic.specs.Table.{op_of, operand_of}
-use Rattle.grammar.specs.Listing.{size_of, both, listing}
+use Rattle.grammar.specs.Listing.{size_of}
 
 -- every variable of the formula is at most v
 unfoldable pub Within : ℕ → Form → Type 0

@@ -1,19 +1,11 @@
 -- What proofs/LowestLaws speaks of. Assumes nothing: these are definitions.
-use Rattle.std.specs.Prelude.{◌≡◌, refl, Bool, true, false, not, List, [], ◌∷◌, ◌++◌, ◌⊎◌, ℕ, suc, ◌+◌, ◌-◌, ◌≤◌, ◌<◌, eqb, leb, length}
-use Rattle.std.proofs.Common.{sym, ◌∙◌, inl, inr, ⊎_elim, arith, length-append, eqb-true, leb-true, leb-false}
-use Rattle.std.proofs.lemmas.Bool.{eqb-false}
+use Rattle.std.specs.Prelude.{◌≡◌, List, ◌⊎◌, ℕ, ◌≤◌, ◌<◌, length}
 use Rattle.logic.specs.Book.{most, most_nodes}
 use Rattle.logic.specs.Numbers.{many_nodes, many_names}
-use Rattle.logic.proofs.Reflect.{false_true}
-use Rattle.logic.specs.Tests.{andb}
-use Rattle.grammar.specs.Phrase.{choose}
-use Rattle.grammar.specs.Grammar.{Event, named, finished}
-use Rattle.grammar.specs.Places.{known, note, PassesAt, NameOverAt}
-use Rattle.grammar.specs.Places.PassesAt.{passing, past_item, past_name}
-use Rattle.grammar.specs.Places.NameOverAt.{one_over, after_name, after_item}
+use Rattle.grammar.specs.Grammar.{Event}
+use Rattle.grammar.specs.Places.{PassesAt, NameOverAt}
 use Rattle.grammar.specs.Machine.{Trace, emits}
 use Rattle.grammar.specs.Outcome.{refused, outcome, nodes_from, names_from}
-use Rattle.grammar.specs.Sorted.{Sorted}
 
 -- no limit is passed
 abbrev pub Clean : List (List ℕ) → ℕ → List Event → Type 0

@@ -1,5 +1,5 @@
 -- The same texts byte by byte, with a stack of the lists that are open. Assumes nothing: these are definitions.
-use Rattle.std.specs.Prelude.{Bool, true, false, not, List, [], ◌∷◌, ◌++◌, ℕ, suc, ◌+◌, ◌-◌, eqb, leb, ltb, length, get_or, drop}
+use Rattle.std.specs.Prelude.{Bool, true, false, not, List, [], ◌∷◌, ◌++◌, ℕ, suc, ◌-◌, eqb, leb, ltb, length, get_or, drop}
 use Rattle.logic.specs.Tests.{andb, orb, same_bytes}
 use Rattle.grammar.specs.Phrase.{bytes, choose, Join, Atom, Word, joins, denies, relates, Term, nil_term, name_term, Phrase, emp, join, deny, relate, spelling, lower, letter, longest}
 use Rattle.grammar.specs.Phrase.Join.{and_word, or_word, sep_word, wand_word}

@@ -1,10 +1,8 @@
 -- What proofs/Traces speaks of. Assumes nothing: these are definitions.
-use Rattle.std.specs.Prelude.{◌≡◌, refl, Bool, true, false, List, [], ◌∷◌, ◌++◌, ◌⊎◌, ℕ, ◌+◌, ◌-◌}
-use Rattle.std.proofs.Common.{sym, ap, ◌∙◌, inl, inr, ⊎_elim}
-use Rattle.logic.proofs.Reflect.{false_true}
-use Rattle.grammar.specs.Phrase.{Phrase, emp, choose}
+use Rattle.std.specs.Prelude.{Bool, true, false, List, [], ◌∷◌}
+use Rattle.grammar.specs.Phrase.{Phrase, emp}
 use Rattle.grammar.specs.Grammar.{Event}
-use Rattle.grammar.specs.Machine.{Mode, item, gap, empty, head, word, arg, name, nil, shut, over, dead, ending, Trace, read, bad, event, emits}
+use Rattle.grammar.specs.Machine.{Trace, read, bad, event}
 
 unfoldable pub events_of : Trace → List Event
 events_of (read F) = []

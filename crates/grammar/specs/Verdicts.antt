@@ -1,24 +1,11 @@
 -- What proofs/Verdicts speaks of. Assumes nothing: these are definitions.
-use Rattle.std.specs.Prelude.{◌≡◌, refl, ◌⊎◌, ℕ, suc, ◌+◌, ◌-◌, ◌≤◌, ◌<◌, length}
-use Rattle.std.proofs.Common.{sym, ap, ◌∙◌, inl, inr, eq-or-lt_of_le, arith}
-use Rattle.std.proofs.Math.Path.{subst}
-use Rattle.std.proofs.Math.Bool.{true}
-use mathlib.Core.List.{List, [], ◌∷◌}
-use Rattle.std.proofs.Math.Logic.{⊎_elim}
+use Rattle.std.specs.Prelude.{◌≡◌, ◌⊎◌, ℕ, ◌≤◌, ◌<◌, length}
+use mathlib.Core.List.{List, []}
 use Rattle.logic.specs.Book.{most, most_nodes}
-use Rattle.logic.specs.Numbers.{many_nodes, many_names, bad_text}
 use Rattle.grammar.specs.Phrase.{Phrase}
-use Rattle.grammar.specs.Grammar.{Event, named, finished, Means}
-use Rattle.grammar.specs.Places.{BadAt, Finished, note, PassesAt, NameOverAt, Complaint, bad_at, passes_at, name_over_at, Refused}
-use Rattle.grammar.specs.Places.PassesAt.{passing, past_item, past_name}
-use Rattle.grammar.specs.Places.NameOverAt.{one_over, after_name, after_item}
-use Rattle.grammar.specs.Machine.{item, read, bad, emits}
-use Rattle.grammar.specs.Outcome.{refused, outcome, Outcome, taken, nodes_from, names_from}
-use Rattle.grammar.specs.Traces.{events_of, phrase_of_trace, whole}
-use Rattle.grammar.specs.Halts.{during, Halt}
-use Rattle.grammar.specs.PlaceLaws.{Each}
-use Rattle.grammar.specs.Sorted.{Sorted}
-use Rattle.grammar.specs.LowestLaws.{Clean, Excess, nodes_first, names_first}
+use Rattle.grammar.specs.Grammar.{Event, Means}
+use Rattle.grammar.specs.Places.{Complaint}
+use Rattle.grammar.specs.Outcome.{refused, Outcome, taken, nodes_from, names_from}
 
 -- number m at place q, and every other complaint is at a higher place
 pub record Only (s : List ℕ) (m q : ℕ) : Type 0 where

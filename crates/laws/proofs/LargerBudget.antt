@@ -1,5 +1,5 @@
 -- A larger budget changes nothing that a search has said. Assumes nothing.
-use Rattle.std.specs.Prelude.{◌≡◌, List, ◌⊎◌, ℕ, ◌≤◌}
+use Rattle.std.specs.Prelude.{◌≡◌, List, ℕ, ◌≤◌}
 use Rattle.std.proofs.Common.{ap, ⊎_elim, arith}
 use Rattle.logic.specs.declared.Profile.{Profile}
 use Rattle.logic.specs.declared.Answer.{Answer}

@@ -3,8 +3,7 @@ use Rattle.std.specs.Prelude.{◌≡◌, List, ℕ, ◌<◌}
 use Rattle.std.proofs.Common.{ap, arith}
 use Rattle.logic.specs.declared.Profile.{Profile}
 use Rattle.logic.specs.declared.Answer.{Answer}
-use Rattle.logic.specs.Numbers.{yes_number, no_number}
-use Rattle.logic.specs.Search.{FitsAt, total_of, Outcome, found, none, spent, Searches}
+use Rattle.logic.specs.Search.{FitsAt, total_of, Outcome, found, none, spent}
 use Rattle.logic.proofs.RefusalLaws.{searches_answered}
 use Rattle.laws.specs.NeverNone.{NeverNone}
 

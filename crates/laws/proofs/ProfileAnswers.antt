@@ -8,7 +8,6 @@ use Rattle.logic.proofs.CheckLaws.{then_passes}
 use Rattle.logic.specs.Heap.{Map, Stack, Allocated, Disjoint}
 use Rattle.logic.specs.Formula.{Form}
 use Rattle.logic.specs.Tests.{heap_of}
-use Rattle.logic.specs.Holds.{Holds}
 use Rattle.logic.specs.Book.{book_formula, vars_of, locs_of, path_of, book_checks}
 use Rattle.logic.specs.Model.{stack_in, heap_in, model_checks, judge_checks, Fits, FitsBook, Verdict, Judges}
 use Rattle.logic.proofs.ModelLaws.{model_stack}

@@ -4,9 +4,8 @@ use Rattle.std.specs.Prelude.{◌≡◌, refl, ◌⊎◌, ◌↔◌, ℕ, zero, 
 use Rattle.std.proofs.Common.{sym, ◌∙◌, ap, zero-le, eq-or-lt_of_le, arith}
 use Rattle.std.proofs.Math.Logic.{inl, inr, ⊎_elim}
 use Rattle.std.proofs.Math.Decide.{dec_le, dec_lt}
-use Rattle.logic.specs.declared.Profile.{Profile}
 use Rattle.logic.specs.declared.Profile.TheVariants.{Strong, Ordinary}
-use Rattle.logic.specs.Heap.{Map, Stack, Allocated, Value, Locs, Named, Disjoint, Parts, Empty}
+use Rattle.logic.specs.Heap.{Map, Stack, Allocated, Value, Locs, Named, Parts, Empty}
 use Rattle.logic.specs.Formula.{Form}
 use Rattle.logic.specs.Formula.Form.{same, diff, pts, ls, conj, disj, but, neg, sep, sept}
 use Rattle.logic.specs.Holds.{Points, Chain, Segment, Holds}

@@ -1,11 +1,9 @@
 -- What proofs/NeverNone speaks of. Assumes nothing: these are definitions.
-use Rattle.std.specs.Prelude.{◌≡◌, List, ℕ, ◌<◌}
-use Rattle.std.proofs.Common.{ap, arith}
+use Rattle.std.specs.Prelude.{◌≡◌, List, ℕ}
 use Rattle.logic.specs.declared.Profile.{Profile}
 use Rattle.logic.specs.declared.Answer.{Answer}
 use Rattle.logic.specs.Numbers.{yes_number, no_number}
-use Rattle.logic.specs.Search.{FitsAt, total_of, Outcome, found, none, spent, Searches}
-use Rattle.logic.proofs.RefusalLaws.{searches_answered}
+use Rattle.logic.specs.Search.{Searches}
 
 -- "found never becomes none" from the book s to the book t, whatever the budgets and the outputs
 abbrev pub NeverNone : Profile → List ℕ → List ℕ → Type 0

@@ -1,10 +1,9 @@
 -- Laws of the loop that exchanges two locations. Assumes nothing.
-use Rattle.std.specs.Prelude.{◌≡◌, refl, Bool, true, false, ℕ, zero, suc, ◌+◌, ◌-◌, ◌<◌, ◌≤◌, eqb, leb}
-use Rattle.std.proofs.Common.{sym, subst, ◌∙◌, ap, ap₂, add-one, arith, eq-eqb, ne_eqb, le-leb}
+use Rattle.std.specs.Prelude.{◌≡◌, refl, ℕ, zero, suc, ◌+◌, ◌-◌, ◌<◌, ◌≤◌, eqb, leb}
+use Rattle.std.proofs.Common.{sym, ◌∙◌, ap, arith, eq-eqb, ne_eqb, le-leb}
 use Rattle.std.proofs.Math.Decide.{dec_le, ℕ_discrete}
 use Rattle.std.specs.Int.Bits.{bit_or}
 use Rattle.std.proofs.lemmas.Bool.{lt-leb}
-use Rattle.logic.specs.Heap.{Map}
 use Rattle.logic.specs.Tests.{pick}
 use Rattle.laws.specs.Renumbering.{renumbered_digit, new_heap}
 use Rattle.cells.specs.Cells.{most, word, cells, Placed}

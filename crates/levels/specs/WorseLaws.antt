@@ -1,5 +1,5 @@
 -- A packed heap from one of its bytes up is the number of its digits there. Assumes nothing.
-use Rattle.std.specs.Prelude.{◌≡◌, refl, Bool, true, false, ℕ, suc, ◌+◌, ◌-◌, ◌*◌, ◌/◌, ◌^◌, ◌<◌, ◌≤◌, ltb}
+use Rattle.std.specs.Prelude.{◌≡◌, Bool, true, false, ℕ, suc, ◌+◌, ◌-◌, ◌*◌, ◌/◌, ◌^◌, ◌<◌, ◌≤◌, ltb}
 use Rattle.std.proofs.Common.{sym, subst, subst₂, ◌∙◌, ap, div-lt_iff_lt-mul, arith, pow-add, ltb-true}
 use Rattle.std.proofs.Math.Nat.{one-le-pow}
 use Rattle.logic.specs.Tests.{digit}

@@ -1,5 +1,5 @@
 -- The list segment that is walked and the one in words agree. Assumes nothing.
-use Rattle.std.specs.Prelude.{◌≡◌, refl, ◌⊎◌, ℕ, zero, suc, pred, ◌<◌, ◌≤◌, eqb}
+use Rattle.std.specs.Prelude.{◌≡◌, refl, ℕ, zero, suc, pred, ◌<◌, ◌≤◌, eqb}
 use Rattle.std.proofs.Common.{sym, ◌∙◌, ap, inl, inr, ⊎_elim, zero-le, suc-le-suc, not-suc-le-zero, eq-or-lt_of_le, le_of_suc-le-suc, arith, eq-eqb, ne_eqb}
 use Rattle.std.proofs.Math.Decide.{ℕ_discrete}
 use Rattle.logic.specs.Heap.{Map, Heap, Allocated, Value, Empty}

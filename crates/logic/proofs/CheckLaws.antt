@@ -2,9 +2,8 @@
 use Rattle.std.specs.Prelude.{◌≡◌, ◌⊎◌}
 use Rattle.std.proofs.Common.{sym, ◌∙◌, ap, inl, inr, not-suc-le-zero, eq-or-lt_of_le, le_of_suc-le-suc, arith}
 use Rattle.std.proofs.Math.Logic.{⊎_elim}
-use Prim.Native.Nat.{ℕ, zero, suc, ◌<◌, ◌≤◌}
+use Prim.Native.Nat.{ℕ, zero, suc, ◌<◌}
 use Rattle.logic.specs.declared.Answer.{Answer}
-use Rattle.logic.specs.Numbers.{answer, yes_number}
 use Rattle.logic.specs.Checks.{Checks, done, check, ◌then◌, upto, Passes, Answers}
 use Rattle.logic.specs.CheckLaws.{Single, Yes, Refuses}
 

@@ -1,9 +1,8 @@
 -- Nodes by how many children they have: none, one or two. What a node adds, by that, is what a tree has at the most. Assumes
 -- nothing.
-use Rattle.std.specs.Prelude.{◌≡◌, refl, List, ℕ, suc, ◌+◌, ◌*◌, ◌<◌, ◌≤◌, eqb, leb}
+use Rattle.std.specs.Prelude.{◌≡◌, refl, List, ℕ, suc, ◌+◌, ◌*◌, ◌<◌, ◌≤◌}
 use Rattle.std.proofs.Math.Path.{sym, ap}
 use Rattle.std.proofs.Common.{◌∙◌, arith}
-use Rattle.logic.specs.Tests.{pick}
 use Rattle.logic.specs.Table.{op_of, kind_of, Sound, Tree}
 use Rattle.logic.proofs.Operators.{each_operator}
 use Rattle.logic.specs.Weight.{sum, kid, kids}

@@ -1,5 +1,5 @@
 -- The number with given digits, and the digits of a number. Assumes nothing.
-use Rattle.std.specs.Prelude.{◌≡◌, ℕ, zero, suc, ◌+◌, ◌*◌, ◌/◌, ◌^◌, ◌<◌}
+use Rattle.std.specs.Prelude.{◌≡◌, ℕ, zero, suc, ◌/◌, ◌^◌, ◌<◌}
 use Rattle.std.proofs.Common.{◌∙◌, ap, not-suc-le-zero, pow-suc, le_of_suc-le-suc, mod-lt, arith}
 use Rattle.std.proofs.Math.Nat.{pow-zero}
 use Rattle.std.proofs.Math.Arith.{digits_lt, digits_div, digits_mod}

@@ -1,6 +1,5 @@
 -- Document 01's examples that are proved, P1 to P14, and some of paths, in one go over a table. Assumes nothing.
 use Rattle.std.specs.Prelude.{◌≡◌, refl, Bool, true, List, [], ◌∷◌, ℕ, ◌<◌, length, get_or}
-use Rattle.logic.specs.declared.Profile.{Profile}
 use Rattle.logic.specs.declared.Profile.TheVariants.{Strong, Ordinary}
 use Rattle.logic.specs.Numbers.{yes_number, no_number, spent_number}
 use Rattle.logic.specs.Tests.{same_bytes, any, all, digit, in_part, heap_of, part, rest, union, without, named, empty, is_value, in_locs, within, apart_at, apart, points, chain, stepped, path_from, short, sep_at, sept_at}
@@ -11,9 +10,9 @@ use Rattle.logic.specs.Computed.{laid_out, bounds_ok, formula_ok, operand_ok, no
 use Rattle.logic.specs.Candidates.{digits_of, bytes_to}
 use Rattle.logic.specs.Trials.{fits_at, first, outcome_of}
 use Rattle.logic.proofs.Entries.{every, entry_of}
-use Rattle.logic.specs.JudgeExamples.{Judged, JudgedRight, judged_test}
+use Rattle.logic.specs.JudgeExamples.{judged_test}
 use Rattle.logic.proofs.JudgeExamples.{judged_right}
-use Rattle.logic.specs.SearchExamples.{Searched, SearchedRight, searched_test, written, worked_out}
+use Rattle.logic.specs.SearchExamples.{searched_test, written, worked_out}
 use Rattle.logic.proofs.SearchExamples.{searched_right}
 use Rattle.logic.specs.Examples.{Row, judge, search, Right}
 

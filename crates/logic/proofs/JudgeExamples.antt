@@ -1,14 +1,13 @@
 -- An example of the judge: what it says of a model, and the test that is worked out for it. Assumes nothing.
-use Rattle.std.specs.Prelude.{◌≡◌, refl, Bool, true, false, List, ℕ, eqb}
+use Rattle.std.specs.Prelude.{◌≡◌, refl, Bool, true, false}
 use Rattle.std.proofs.Common.{◌∙◌, ap, ⊎_elim}
-use Rattle.logic.specs.declared.Profile.{Profile}
 use Rattle.logic.specs.declared.Answer.{Answer}
 use Rattle.logic.specs.Numbers.{yes_number, no_number}
 use Rattle.logic.proofs.CheckLaws.{passes_then, answers_rest}
-use Rattle.logic.specs.Tests.{andb, pick}
+use Rattle.logic.specs.Tests.{pick}
 use Rattle.logic.specs.Book.{book_checks, vars_of, locs_of, Accepted}
 use Rattle.logic.specs.Model.{model_checks, judge_checks, FitsBook, Verdict, Judges}
-use Rattle.logic.specs.Computed.{accepted, model_ok, fits_book}
+use Rattle.logic.specs.Computed.{fits_book}
 use Rattle.logic.specs.Reflect.{Is}
 use Rattle.logic.proofs.Reflect.{is_and, is_eq, fails}
 use Rattle.logic.proofs.ComputedLaws.{is_accepted, is_model}

@@ -4,7 +4,7 @@ use Rattle.std.specs.Prelude.{◌≡◌, Bool, true, false, not, eqb}
 use Rattle.std.proofs.Math.Path.{refl, ap}
 use Rattle.std.proofs.Common.{sym, ◌∙◌, eq-or-lt_of_le, le_of_suc-le-suc, arith}
 use Rattle.std.proofs.Math.Logic.{⊎_elim}
-use Prim.Native.Nat.{ℕ, zero, suc, zero-le, pred, ◌+◌, ◌<◌, ◌≤◌}
+use Prim.Native.Nat.{ℕ, zero, suc, zero-le, pred, ◌<◌, ◌≤◌}
 use borrow.Author.Tests.{ne_eqb}
 use Rattle.logic.specs.Heap.{Map, Heap, Allocated}
 use Rattle.logic.specs.Paths.{Path, NoLongPath}

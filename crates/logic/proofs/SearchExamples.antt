@@ -1,24 +1,22 @@
 -- An example of the search: what it answers and writes, and the test that is worked out for it. Assumes nothing.
-use Rattle.std.specs.Prelude.{◌≡◌, Bool, true, eqb}
+use Rattle.std.specs.Prelude.{◌≡◌, true}
 use Rattle.std.proofs.Math.Path.{sym, ap, ap₂}
 use Rattle.std.proofs.Common.{◌∙◌, arith}
-use mathlib.Core.List.{List, [], ◌++◌}
+use mathlib.Core.List.{List, ◌++◌}
 use Prim.Native.Nat.{ℕ, zero, suc, ◌+◌, ◌-◌, ◌≤◌}
 use Rattle.std.proofs.Math.ListN.{length, drop}
-use Rattle.logic.specs.declared.Profile.{Profile}
 use Rattle.logic.specs.declared.Answer.{Answer}
-use Rattle.logic.specs.Tests.{andb, same_bytes, heap_of}
+use Rattle.logic.specs.Tests.{same_bytes, heap_of}
 use Rattle.logic.specs.Checks.{upto, Passes}
 use Rattle.logic.proofs.CheckLaws.{passes_then}
 use Rattle.logic.specs.Strays.{name_checks}
 use Rattle.logic.specs.Book.{vars_of, locs_of, formula_of, Accepted}
-use Rattle.logic.specs.Computed.{accepted, all_named}
 use Rattle.logic.proofs.Reflect.{is_and, is_eq, is_self, is_same_bytes}
 use Rattle.logic.proofs.ComputedLaws.{is_accepted, is_all_named}
 use Rattle.logic.specs.Candidates.{stack_of, model_of}
 use Rattle.logic.proofs.CandidateLaws.{model_long}
 use Rattle.logic.specs.Search.{FitsAt, total_of, searched, room_checks, search_rest, Searches}
-use Rattle.logic.specs.Trials.{fits_at, first, outcome_of}
+use Rattle.logic.specs.Trials.{fits_at, outcome_of}
 use Rattle.logic.proofs.SearchLaws.{outcome_single, outcome_worked_out, searches_outcome, is_fits_at}
 use Rattle.logic.specs.SearchExamples.{Searched, SearchedRight, written, worked_out, searched_test}
 

@@ -6,7 +6,7 @@ use Rattle.std.proofs.Math.Nat.{zero-mul, one-mul}
 use Rattle.std.proofs.Math.Decide.{dec_le, ℕ_discrete}
 use Rattle.logic.specs.Tests.{pick}
 use Rattle.logic.specs.Formula.{Form}
-use Rattle.logic.specs.Table.{op_of, operand_of, kind_of, Operand, OperandOk, Sound, uses_on, uses, Tree, atom_of, join_of, tree}
+use Rattle.logic.specs.Table.{op_of, operand_of, kind_of, Operand, OperandOk, Sound, uses_on, uses, Tree, tree}
 use Rattle.logic.proofs.TableLaws.{not_used_on, no_child_on}
 use Rattle.logic.proofs.NodeLaws.{tree_atom, tree_join}
 use Rattle.logic.specs.Weight.{sum, kid, kids, Adds, own_at}

@@ -1,10 +1,6 @@
 -- What proofs/Children speaks of. Assumes nothing: these are definitions.
-use Rattle.std.specs.Prelude.{◌≡◌, refl, List, ℕ, suc, ◌+◌, ◌*◌, ◌<◌, ◌≤◌, eqb, leb}
-use Rattle.std.proofs.Math.Path.{sym, ap}
-use Rattle.std.proofs.Common.{◌∙◌, arith}
+use Rattle.std.specs.Prelude.{ℕ, eqb, leb}
 use Rattle.logic.specs.Tests.{pick}
-use Rattle.logic.specs.Table.{op_of, kind_of, Sound, Tree}
-use Rattle.logic.specs.Weight.{sum, kid, kids}
 
 abbrev pub none : ℕ → ℕ
 none o = pick (leb o 4) 1 0

@@ -1,9 +1,5 @@
 -- What proofs/Digits speaks of. Assumes nothing: these are definitions.
-use Rattle.std.specs.Prelude.{◌≡◌, ℕ, zero, suc, ◌+◌, ◌*◌, ◌/◌, ◌^◌, ◌<◌}
-use Rattle.std.proofs.Common.{◌∙◌, ap, not-suc-le-zero, pow-suc, le_of_suc-le-suc, mod-lt, arith}
-use Rattle.std.proofs.Math.Nat.{pow-zero}
-use Rattle.std.proofs.Math.Arith.{digits_lt, digits_div, digits_mod}
-use Rattle.logic.specs.Tests.{digit}
+use Rattle.std.specs.Prelude.{ℕ, zero, suc, ◌+◌, ◌*◌}
 
 -- d 0 is the lowest of the k digits
 unfoldable pub num_of : ℕ → ℕ → (ℕ → ℕ) → ℕ

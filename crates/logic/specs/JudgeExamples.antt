@@ -1,14 +1,12 @@
 -- What proofs/JudgeExamples speaks of. Assumes nothing: these are definitions.
-use Rattle.std.specs.Prelude.{◌≡◌, refl, Bool, true, false, List, ℕ, eqb}
-use Rattle.std.proofs.Common.{◌∙◌, ap, ⊎_elim}
+use Rattle.std.specs.Prelude.{◌≡◌, Bool, List, ℕ, eqb}
 use Rattle.logic.specs.declared.Profile.{Profile}
 use Rattle.logic.specs.declared.Answer.{Answer}
 use Rattle.logic.specs.Numbers.{yes_number, no_number}
 use Rattle.logic.specs.Tests.{andb, pick}
-use Rattle.logic.specs.Book.{book_checks, vars_of, locs_of, Accepted}
-use Rattle.logic.specs.Model.{model_checks, judge_checks, FitsBook, Verdict, Judges}
+use Rattle.logic.specs.Book.{vars_of, locs_of}
+use Rattle.logic.specs.Model.{Judges}
 use Rattle.logic.specs.Computed.{accepted, model_ok, fits_book}
-use Rattle.logic.specs.Reflect.{Is}
 
 -- a book, a model and the number that the judge gives back for them
 pub record Judged : Type 0 where

@@ -1,16 +1,11 @@
 -- What proofs/RefusalLaws speaks of. Assumes nothing: these are definitions.
-use Rattle.std.specs.Prelude.{◌≡◌, List}
-use Rattle.std.proofs.Math.Path.{ap}
-use Rattle.std.proofs.Math.Logic.{⊎_elim}
-use Prim.Native.Nat.{ℕ, zero, suc, ◌<◌, ◌≤◌}
-use Rattle.std.proofs.Common.{arith}
+use Rattle.std.specs.Prelude.{List}
+use Prim.Native.Nat.{ℕ, ◌≤◌}
 use Rattle.logic.specs.declared.Profile.{Profile}
 use Rattle.logic.specs.declared.Answer.{Answer}
-use Rattle.logic.specs.Numbers.{book_length}
-use Rattle.logic.specs.Checks.{Checks, done, check, ◌then◌, upto, Passes, Answers}
-use Rattle.logic.specs.Book.{stretch, vars_of, locs_of, formula_of, nodes, root, contents_checks, body_checks, node_checks, use_checks, table_checks, book_checks, Accepted}
-use Rattle.logic.specs.Strays.{name_checks}
-use Rattle.logic.specs.Search.{FitsAt, total_of, Outcome, room_checks, search_rest, search_checks, Searches}
+use Rattle.logic.specs.Checks.{Checks, done, check, Passes}
+use Rattle.logic.specs.Book.{Accepted}
+use Rattle.logic.specs.Search.{FitsAt, total_of, Outcome, search_rest}
 
 -- the refusals of c have numbers from k on
 unfoldable pub From : ℕ → Checks → Type 0

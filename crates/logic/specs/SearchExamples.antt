@@ -1,19 +1,15 @@
 -- What proofs/SearchExamples speaks of. Assumes nothing: these are definitions.
-use Rattle.std.specs.Prelude.{◌≡◌, Bool, true, eqb}
-use Rattle.std.proofs.Math.Path.{sym, ap, ap₂}
-use Rattle.std.proofs.Common.{◌∙◌, arith}
+use Rattle.std.specs.Prelude.{◌≡◌, Bool, eqb}
 use mathlib.Core.List.{List, [], ◌++◌}
 use Prim.Native.Nat.{ℕ, zero, suc, ◌+◌, ◌-◌, ◌≤◌}
 use Rattle.std.proofs.Math.ListN.{length, drop}
 use Rattle.logic.specs.declared.Profile.{Profile}
 use Rattle.logic.specs.declared.Answer.{Answer}
-use Rattle.logic.specs.Tests.{andb, same_bytes, heap_of}
-use Rattle.logic.specs.Checks.{upto, Passes}
-use Rattle.logic.specs.Strays.{name_checks}
-use Rattle.logic.specs.Book.{vars_of, locs_of, formula_of, Accepted}
+use Rattle.logic.specs.Tests.{andb, same_bytes}
+use Rattle.logic.specs.Book.{vars_of, locs_of, formula_of}
 use Rattle.logic.specs.Computed.{accepted, all_named}
-use Rattle.logic.specs.Candidates.{stack_of, model_of}
-use Rattle.logic.specs.Search.{FitsAt, total_of, searched, room_checks, search_rest, Searches}
+use Rattle.logic.specs.Candidates.{model_of}
+use Rattle.logic.specs.Search.{total_of, searched, Searches}
 use Rattle.logic.specs.Trials.{fits_at, first, outcome_of}
 
 -- a book, a budget, and what a search gives back: its number, its tried count, and the bytes that it writes

@@ -1,12 +1,8 @@
 -- What proofs/Weight speaks of. Assumes nothing: these are definitions.
-use Rattle.std.specs.Prelude.{◌≡◌, refl, List, ℕ, zero, suc, ◌+◌, ◌*◌, ◌<◌, ◌≤◌, eqb}
-use Rattle.std.proofs.Common.{sym, ap₂, ◌∙◌, ⊎_elim, zero-le, not-suc-le-zero, eq-or-lt_of_le, le_of_suc-le-suc, add-mul, add-one, arith, eq-eqb, ne_eqb, le-leb}
-use Rattle.std.proofs.Math.Path.{ap}
-use Rattle.std.proofs.Math.Nat.{zero-mul, one-mul}
-use Rattle.std.proofs.Math.Decide.{dec_le, ℕ_discrete}
+use Rattle.std.specs.Prelude.{◌≡◌, List, ℕ, zero, suc, ◌+◌, ◌≤◌, eqb}
 use Rattle.logic.specs.Tests.{pick}
 use Rattle.logic.specs.Formula.{Form}
-use Rattle.logic.specs.Table.{op_of, operand_of, kind_of, Operand, OperandOk, Sound, uses_on, uses, Tree, atom_of, join_of, tree}
+use Rattle.logic.specs.Table.{op_of, operand_of, kind_of, atom_of, join_of}
 
 -- f 0 + f 1 + .. + f (n - 1)
 unfoldable pub sum : ℕ → (ℕ → ℕ) → ℕ

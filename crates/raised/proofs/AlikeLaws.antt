@@ -1,6 +1,5 @@
 -- What refuses alike answers alike. Assumes nothing.
 use Rattle.std.proofs.Common.{inl, inr, ⊎_elim}
-use Rattle.std.specs.Prelude.{◌↔◌}
 use Rattle.logic.specs.declared.Answer.{Answer}
 use Rattle.logic.specs.Checks.{Checks, done, check, ◌then◌, Passes, Answers}
 use Rattle.raised.specs.Alike.{Alike, no_part, part}

@@ -1,13 +1,13 @@
 -- A text that a bench with lower bounds refused neither with 12 nor with 28 has its old answer, and its old book. Assumes nothing.
 use Rattle.std.specs.Prelude.{◌≡◌, Bool, true, List, [], ◌∷◌, ◌++◌, ◌↔◌, ℕ, suc, ◌≤◌, length}
 use Rattle.std.proofs.Math.Path.{refl, ap}
-use Rattle.std.proofs.Common.{sym, subst, subst₂, ◌∙◌, inl, arith}
+use Rattle.std.proofs.Common.{sym, subst, subst₂, ◌∙◌, arith}
 use Rattle.std.proofs.Math.Bool.{false}
 use Rattle.std.proofs.Math.Logic.{inr, ⊎_elim}
 use Rattle.std.proofs.Math.Decide.{ℕ_discrete}
 use Rattle.std.proofs.Math.ListN.{drop}
 use Rattle.logic.specs.declared.Answer.{Answer}
-use Rattle.logic.specs.Numbers.{yes_number, bounds, many_names}
+use Rattle.logic.specs.Numbers.{bounds, many_names}
 use Rattle.logic.specs.Checks.{Answers}
 use Rattle.logic.proofs.Reflect.{false_true}
 use Rattle.logic.specs.Book.{most}
@@ -16,8 +16,7 @@ use Rattle.grammar.specs.Grammar.{Event, named, finished}
 use Rattle.grammar.specs.Places.{known, note, NameOverAt, ComplaintWithin, Complaint, bad_at, passes_at, name_over_at, RefusedWithin, Refused}
 use Rattle.grammar.specs.Places.NameOverAt.{one_over, after_name, after_item}
 use Rattle.grammar.specs.Machine.{item}
-use Rattle.grammar.specs.Traces.{events_of}
-use Rattle.grammar.proofs.PlaceLaws.{trace, finished_events}
+use Rattle.grammar.proofs.PlaceLaws.{finished_events}
 use Rattle.grammar.specs.Sorted.{Sorted}
 use Rattle.grammar.proofs.Sorted.{sorted_run}
 use Rattle.grammar.proofs.LowestLaws.{over_low, note_room}

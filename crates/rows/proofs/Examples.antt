@@ -1,5 +1,5 @@
 -- Document 01's P1: the encoding of x ↦ x. Assumes nothing.
-use Rattle.std.specs.Prelude.{◌≡◌, refl, List, [], ◌∷◌, ℕ}
+use Rattle.std.specs.Prelude.{◌≡◌, refl, [], ◌∷◌}
 use Rattle.logic.specs.declared.Profile.TheVariants.{Strong}
 use Rattle.logic.specs.Table.{tree, deep, form_of, atom_of, join_of, join_from5}
 use Rattle.rows.specs.Row.{fields_of, bytes_of}

@@ -1,12 +1,11 @@
 -- What the encoder's statement gives: one answer and one output, and how large an encoding is. Assumes nothing.
-use Rattle.std.specs.Prelude.{◌≡◌, refl, List, [], ◌∷◌, ◌++◌, ℕ, suc, ◌+◌, ◌-◌, ◌*◌, ◌≤◌, length}
+use Rattle.std.specs.Prelude.{◌≡◌, refl, List, [], ◌∷◌, ◌++◌, ℕ, suc, ◌+◌, ◌*◌, ◌≤◌, length}
 use Rattle.std.proofs.Common.{sym, ap, ◌∙◌, append_assoc, arith, length-append}
 use Rattle.std.proofs.Math.Decide.{ℕ_discrete}
 use Rattle.logic.specs.declared.Profile.{Profile}
 use Rattle.logic.specs.declared.Answer.{Answer}
 use Rattle.logic.specs.CheckLaws.{Yes}
 use Rattle.logic.proofs.CheckLaws.{answers_single, yes_single}
-use Rattle.logic.specs.Table.{tree}
 use Rattle.logic.specs.Book.{book_formula, vars_of, locs_of, path_of, formula_of, nodes, root, Whole}
 use Rattle.rows.specs.Row.{Row, fields_of, ten_bytes, bytes_of}
 use Rattle.rows.specs.Table.{rows_in, arrays, sets}

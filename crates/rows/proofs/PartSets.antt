@@ -1,5 +1,5 @@
 -- Two parts of a heap, as sets and an array: what SPLIT, APART and SAME say of them. Assumes nothing.
-use Rattle.std.specs.Prelude.{◌≡◌, false, ◌⊎◌, ◌↔◌}
+use Rattle.std.specs.Prelude.{◌≡◌, false, ◌⊎◌}
 use Rattle.std.proofs.Common.{sym, subst, subst₂, ◌∙◌, ap, inl, inr, eq-eqb}
 use Rattle.std.proofs.Math.Path.{fun_ext}
 use Rattle.std.proofs.Math.Logic.{⊎_elim}
@@ -10,7 +10,7 @@ use Rattle.logic.specs.declared.Profile.{Profile}
 use Rattle.logic.specs.Heap.{Map, Heap, Allocated, Disjoint, Parts}
 use Rattle.logic.specs.Tests.{allocated}
 use Rattle.logic.proofs.Agree.{is_allocated, union_heap, union_is}
-use Rattle.rows.specs.Assignment.{Set, Member, on}
+use Rattle.rows.specs.Assignment.{Set, on}
 use Rattle.rows.specs.Meaning.{Splits, Apart, Same}
 use Rattle.rows.proofs.OnSet.{on_member, on_other, member_of, allocated_of, disjoint_apart, same_on}
 use Rattle.rows.specs.PartSets.{Domain}

@@ -1,10 +1,5 @@
 -- What proofs/Examples speaks of. Assumes nothing: these are definitions.
-use Rattle.std.specs.Prelude.{◌≡◌, refl, List, [], ◌∷◌, ℕ}
-use Rattle.logic.specs.declared.Profile.TheVariants.{Strong}
-use Rattle.logic.specs.Table.{tree, deep, form_of, atom_of, join_of, join_from5}
-use Rattle.rows.specs.Row.{fields_of, bytes_of}
-use Rattle.rows.specs.Table.{rows_of, rows_in, arrays_in, sets_in}
-use Rattle.rows.specs.Output.{encoding_of}
+use Rattle.std.specs.Prelude.{List, [], ◌∷◌, ℕ}
 
 -- "P1's book is 02 01 0B 00 03 00 02 0E 00 03 00 01 01 01 03 01 01."
 abbrev pub p1 : List ℕ

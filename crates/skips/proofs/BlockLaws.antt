@@ -1,5 +1,5 @@
 -- Laws of blocks: what a hunt that passes over a block keeps, and which digits a block shares. Assumes nothing.
-use Rattle.std.specs.Prelude.{◌≡◌, ◌⊎◌, ltb}
+use Rattle.std.specs.Prelude.{◌≡◌, ltb}
 use Rattle.std.proofs.Math.Path.{refl, ap}
 use Rattle.std.proofs.Common.{sym, subst, ◌∙◌, not-suc-le-zero, le_of_suc-le-suc, eq-or-lt_of_le, pow-suc, div-one, mul_comm, mul_assoc, div-lt_iff_lt-mul, le-div_iff_mul-le, div-mul-le_self, mul-le-mul_left, arith, lt-ltb, le-ltb}
 use Rattle.std.proofs.Math.Logic.{⊎_elim}

@@ -1,5 +1,5 @@
 -- The bounds of a node from those of its children: one rule an operator. Assumes nothing.
-use Rattle.std.specs.Prelude.{◌≡◌, ◌⊎◌, ℕ, ◌+◌, ◌-◌, ◌≤◌}
+use Rattle.std.specs.Prelude.{◌≡◌, ℕ, ◌+◌, ◌-◌, ◌≤◌}
 use Rattle.std.proofs.Math.Logic.{⊎_elim}
 use Rattle.std.proofs.Common.{arith}
 use Rattle.logic.specs.declared.Profile.{Profile}
@@ -8,9 +8,9 @@ use Rattle.logic.specs.Formula.{Form}
 use Rattle.logic.specs.Formula.Form.{same, diff, pts, ls, conj, disj, but, neg, sep, sept}
 use Rattle.logic.specs.Holds.{Holds}
 use Rattle.logic.proofs.Agree.{first_heap, second_heap}
-use Rattle.skips.specs.Counts.{incoming, outgoing, smaller, larger}
+use Rattle.skips.specs.Counts.{smaller, larger}
 use Rattle.skips.proofs.CountLaws.{incoming_le, incoming_none, incoming_parts, out_none, out_le, out_parts, Even, points_even, segment_even, smaller_is, larger_le}
-use Rattle.skips.specs.Facts.{Digits, Hopeless, Caps, Needs, May, cap_of_path, cap_of, need_of}
+use Rattle.skips.specs.Facts.{Digits, Hopeless, Caps, Needs, cap_of_path, cap_of, need_of}
 use Rattle.skips.proofs.DigitRules.{whole_heap, may_holds}
 use Rattle.skips.specs.BoundRules.{FactsAt}
 

@@ -2,7 +2,7 @@
 use Rattle.std.specs.Prelude.{◌≡◌, Bool, true, List, ◌⊎◌, ℕ, suc, ◌+◌, ◌/◌, ◌%◌, ◌^◌, ◌<◌, ◌≤◌, eqb}
 use Rattle.std.proofs.Common.{sym, subst, ◌∙◌, ap, inl, inr, ⊎_elim, eq-or-lt_of_le, arith}
 use Rattle.std.specs.Int.Bits.{bit_or}
-use Rattle.logic.specs.Tests.{orb, in_part}
+use Rattle.logic.specs.Tests.{in_part}
 use Rattle.logic.specs.Reflect.{Is}
 use Rattle.logic.proofs.Reflect.{false_true, is_iff, is_eq, is_or, is_self}
 use Rattle.logic.specs.Table.{op_of, operand_of}

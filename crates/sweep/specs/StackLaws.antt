@@ -1,17 +1,16 @@
 -- Laws of the way through the heaps of one stack. Assumes nothing.
-use Rattle.std.specs.Prelude.{◌≡◌, Bool, true, false, List, ℕ, ◌*◌, ◌^◌, ◌<◌, ◌≤◌, ltb}
+use Rattle.std.specs.Prelude.{◌≡◌, Bool, false, List, ℕ, ◌*◌, ◌^◌, ◌<◌, ◌≤◌}
 use Rattle.std.proofs.Common.{sym, ◌∙◌, lt-ltb, le-ltb}
 use Rattle.std.proofs.Math.Path.{subst, subst₂}
 use Rattle.std.proofs.Math.Decide.{dec_lt}
 use native.Mathlib.Omega.{arith}
 use Rattle.logic.specs.Heap.{Map, Heap}
 use Rattle.logic.specs.Table.{tree}
-use Rattle.logic.specs.Tests.{pick, heap_of}
 use Rattle.logic.specs.Reflect.{Is}
 use Rattle.logic.proofs.Reflect.{fails}
 use Rattle.logic.specs.Model.{Fits}
-use Rattle.logic.specs.Candidates.{total, stack_of as stack_at, number_of}
-use Rattle.logic.specs.Search.{CandidateFits, Lowest}
+use Rattle.logic.specs.Candidates.{total}
+use Rattle.logic.specs.Search.{CandidateFits}
 use Rattle.cells.specs.Cells.{most, cells}
 use Rattle.judge.specs.Setting.{vars_of, locs_of, path_of, profile_of, stack_of}
 use Rattle.candidates.specs.declared.Candidate.{Candidate}
@@ -19,7 +18,7 @@ use Rattle.candidates.specs.Counter.{Passes}
 use Rattle.candidates.specs.CounterLaws.{total_low}
 use Rattle.skips.specs.Blocks.{weight, after, Skippable}
 use Rattle.skips.proofs.BlockLaws.{in_block, weight_some}
-use Rattle.skips.proofs.BlockFacts.{SkippableAt, skip_tried}
+use Rattle.skips.proofs.BlockFacts.{skip_tried}
 use Rattle.blocks.specs.Over.{Over}
 use Rattle.sweep.specs.Sweep.{At, low_of, Going, Facing}
 use Rattle.sweep.specs.SweepLaws.{at_stack, at_heap, at_number, same_stack, going_at, going_on}

@@ -1,5 +1,5 @@
 -- Laws of the way through a range: where it starts, one step of it, and how it ends. Assumes nothing.
-use Rattle.std.specs.Prelude.{◌≡◌, refl, Bool, true, false, ℕ, ◌+◌, ◌%◌, ◌<◌, ◌≤◌}
+use Rattle.std.specs.Prelude.{◌≡◌, Bool, true, false, ℕ, ◌%◌, ◌<◌, ◌≤◌}
 use Rattle.std.proofs.Common.{sym, ◌∙◌, ap, ap₂, mod-eq_of_lt, arith}
 use Rattle.std.proofs.Math.Path.{subst, subst₂}
 use Rattle.std.proofs.Math.Decide.{dec_lt}
@@ -12,8 +12,8 @@ use Rattle.logic.proofs.Reflect.{false_true}
 use Rattle.cells.specs.Cells.{cells}
 use Rattle.candidates.specs.declared.Candidate.{Candidate}
 use Rattle.candidates.specs.Counter.{WithinBounds, number, Passes}
-use Rattle.skips.specs.Ranges.{Passed, FitInRange, Gives, reply_of, numbered, nothing}
-use Rattle.skips.specs.Blocks.{weight, Block, after, Skippable}
+use Rattle.skips.specs.Ranges.{Passed, FitInRange, Gives, reply_of}
+use Rattle.skips.specs.Blocks.{weight, after, Skippable}
 use Rattle.skips.proofs.BlockLaws.{in_block, after_above, weight_some, block_whole_stack}
 use Rattle.sweep.specs.declared.Stretch.{Stretch}
 use Rattle.sweep.specs.Sweep.{At, Going, Given}

@@ -1,12 +1,11 @@
 -- Laws of the way from stack to stack. Assumes nothing.
-use Rattle.std.specs.Prelude.{◌≡◌, false, List, ◌⊎◌, ℕ, suc, ◌+◌, ◌*◌, ◌^◌, ◌<◌, ◌≤◌}
-use Rattle.std.proofs.Common.{sym, subst, subst₂, ◌∙◌, ap, ⊎_elim, arith}
+use Rattle.std.specs.Prelude.{◌≡◌, false, List, ◌⊎◌, ℕ, suc, ◌+◌, ◌<◌, ◌≤◌}
+use Rattle.std.proofs.Common.{sym, subst, subst₂, ⊎_elim, arith}
 use Rattle.logic.specs.declared.Profile.{Profile}
 use Rattle.logic.specs.Formula.{Form}
 use Rattle.logic.specs.Table.{Sound}
 use Rattle.logic.specs.Candidates.{total}
-use Rattle.logic.specs.Search.{CandidateFits, Lowest}
-use Rattle.cells.specs.Cells.{most}
+use Rattle.logic.specs.Search.{CandidateFits}
 use Rattle.judge.specs.Setting.{room}
 use Rattle.candidates.specs.declared.Candidate.{Candidate}
 use Rattle.candidates.specs.Counter.{WithinBounds, number, Passes}

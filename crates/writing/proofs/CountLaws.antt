@@ -1,5 +1,5 @@
 -- A written formula has as many names as variables are known among them. Assumes nothing.
-use Rattle.std.specs.Prelude.{◌≡◌, refl, Bool, true, false, List, [], ◌∷◌, ◌++◌, ℕ, zero, suc, ◌+◌, ◌<◌, length, get_or}
+use Rattle.std.specs.Prelude.{◌≡◌, refl, Bool, true, false, List, [], ◌∷◌, ◌++◌, ℕ, zero, suc, ◌+◌, ◌<◌, get_or}
 use Rattle.std.proofs.Common.{sym, ap, subst, ⊎_elim, eq-or-lt_of_le, le_of_suc-le-suc, arith, length-append}
 use Rattle.logic.proofs.Reflect.{is_same_bytes, refutes}
 use Rattle.logic.specs.Tests.{orb, pick, same_bytes}

@@ -1,8 +1,7 @@
 -- Books and their texts, in one go over a table; and a book that its text does not give back. Assumes nothing.
-use Rattle.std.specs.Prelude.{◌≡◌, refl, Bool, true, List, [], ◌∷◌, ◌++◌, ℕ, ◌<◌, ◌≤◌, length, get_or, drop}
+use Rattle.std.specs.Prelude.{◌≡◌, refl, Bool, true, List, [], ◌∷◌, ◌++◌, ℕ, ◌<◌, length, get_or, drop}
 use Rattle.std.proofs.Common.{ap, ◌∙◌, arith}
 use Rattle.logic.specs.declared.Profile.TheVariants.{Strong}
-use Rattle.logic.specs.declared.Answer.{Answer}
 use Rattle.logic.specs.Numbers.{answer, yes_number, no_number, output_length}
 use Rattle.logic.specs.Tests.{andb, same_bytes, any, all, digit, in_part, heap_of, part, rest, union, without, named, empty, is_value, in_locs, within, apart_at, apart, points, chain, stepped, path_from, short, sep_at, sept_at}
 use Rattle.logic.specs.Truth.{truth}
@@ -19,7 +18,7 @@ use Rattle.grammar.specs.Phrase.{bytes}
 use Rattle.grammar.specs.Places.{known}
 use Rattle.grammar.specs.Listing.{size_of, listing, book_of}
 use Rattle.grammar.specs.Meaning.{collect, position, form_of}
-use Rattle.writing.specs.Writing.{phrase_of, write, text_of, Exports}
+use Rattle.writing.specs.Writing.{phrase_of, write, text_of}
 use Rattle.writing.proofs.ExportLaws.{exports_single, exports_written, exports_short}
 use Rattle.writing.specs.Matching.{book_again, renumbered}
 use Rattle.writing.specs.Examples.{Example, Right}

@@ -9,7 +9,7 @@ use Rattle.logic.specs.Book.{most, vars_of, book_formula, Accepted}
 use Rattle.logic.proofs.BookLaws.{accepted_whole}
 use Rattle.grammar.specs.Phrase.{Term, Phrase, emp, join, deny, relate, letter}
 use Rattle.grammar.specs.ListingLaws.{Within}
-use Rattle.writing.specs.Writing.{figure_of, variable, phrase_of}
+use Rattle.writing.specs.Writing.{figure_of, phrase_of}
 use Rattle.writing.proofs.TreeLaws.{formula_within}
 use Rattle.writing.specs.WritingLaws.{Plain, nil_plain, name_plain, EachTerm}
 use Rattle.writing.specs.TermLaws.{Variable, is_variable}

@@ -4,7 +4,7 @@ use Rattle.std.proofs.Common.{sym, ap, ◌∙◌, subst, append-nil, append_asso
 use Prim.Native.Char.{code}
 use Rattle.logic.proofs.Reflect.{is_and, is_self}
 use Rattle.logic.specs.Tests.{same_bytes}
-use Rattle.grammar.specs.Phrase.{bytes, Join, Atom, Word, joins, denies, relates, Term, nil_term, name_term, Phrase, emp, join, deny, relate, spelling, letter}
+use Rattle.grammar.specs.Phrase.{bytes, Join, Atom, Word, joins, denies, relates, Term, nil_term, name_term, Phrase, emp, join, deny, relate, spelling}
 use Rattle.grammar.specs.Phrase.Join.{and_word, or_word, sep_word, wand_word}
 use Rattle.grammar.specs.Phrase.Atom.{equal_word, distinct_word, pto_word, ls_word}
 use Rattle.grammar.specs.Grammar.{Event, deepest, Means}

@@ -1,11 +1,10 @@
 -- `arrays::row` meets its contract. Assumes nothing.
 use borrow.Author.Rules.{rules}
 use mathlib.Core.Path.{◌≡◌, refl}
-use Prim.Native.Nat.{ℕ, ◌+◌, ◌-◌, ◌<◌, ◌≤◌}
+use Prim.Native.Nat.{◌+◌}
 use native.Mathlib.Omega.{arith}
-use lib.ListN.{length, get_or, length-set}
+use lib.ListN.{get_or, length-set}
 use borrow.Author.Count.{below_none}
-use Rattle.logic.specs.Book.{most}
 use Rattle.arrays.specs.UnpackLaws.{set_below, set_past, filled, zeros}
 use Rattle.arrays.proofs.row.Goals as goal
 

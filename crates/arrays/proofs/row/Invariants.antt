@@ -1,12 +1,8 @@
 -- What the loops keep, and what falls.
-use borrow.Author.Rules.{rules}
-use mathlib.Core.Path.{◌≡◌, refl}
+use mathlib.Core.Path.{◌≡◌}
 use Prim.Native.Nat.{ℕ, ◌+◌, ◌-◌, ◌<◌, ◌≤◌}
-use native.Mathlib.Omega.{arith}
-use lib.ListN.{length, get_or, length-set}
-use borrow.Author.Count.{below_none}
+use lib.ListN.{length, get_or}
 use Rattle.logic.specs.Book.{most}
-use Rattle.arrays.specs.UnpackLaws.{set_below, set_past, filled, zeros}
 use Rattle.arrays.proofs.row.Given as goal
 
 abbrev pub invariant-loop-j : goal.invariant-loop-j

@@ -2,15 +2,15 @@
 use borrow.Author.Rules.{rules}
 use mathlib.Core.Path.{◌≡◌, refl, ap}
 use mathlib.Core.List.{[]}
-use Prim.Native.Nat.{ℕ, ◌+◌, ◌-◌, ◌*◌, ◌<◌, ◌≤◌}
+use Prim.Native.Nat.{◌<◌}
 use native.Mathlib.Nat.{zero-mul, add-zero}
 use native.Mathlib.Omega.{arith}
-use lib.ListN.{length, get_or, length-set, get_or-replicate, replicate}
+use lib.ListN.{length, length-set, get_or-replicate, replicate}
 use borrow.Author.Count.{below_none}
 use Rattle.logic.specs.Book.{most}
 use Rattle.rows.specs.Assigned.{array_in}
 use Rattle.rows.specs.Bounds.{most_arrays}
-use Rattle.arrays.specs.Unpacked.{values_of, values_in}
+use Rattle.arrays.specs.Unpacked.{values_of}
 use Rattle.arrays.specs.UnpackLaws.{set_below, set_each, row_more, rows_fit, row_array}
 use Rattle.arrays.proofs.unpack.Goals as goal
 

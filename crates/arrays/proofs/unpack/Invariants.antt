@@ -1,17 +1,12 @@
 -- What the loops keep, and what falls.
-use borrow.Author.Rules.{rules}
-use mathlib.Core.Path.{◌≡◌, refl, ap}
+use mathlib.Core.Path.{◌≡◌}
 use mathlib.Core.List.{[]}
 use Prim.Native.Nat.{ℕ, ◌+◌, ◌-◌, ◌*◌, ◌<◌, ◌≤◌}
-use native.Mathlib.Nat.{zero-mul, add-zero}
-use native.Mathlib.Omega.{arith}
-use lib.ListN.{length, get_or, length-set, get_or-replicate, replicate}
-use borrow.Author.Count.{below_none}
+use lib.ListN.{length, get_or}
 use Rattle.logic.specs.Book.{most}
 use Rattle.rows.specs.Assigned.{array_in}
 use Rattle.rows.specs.Bounds.{most_arrays}
-use Rattle.arrays.specs.Unpacked.{values_of, values_in}
-use Rattle.arrays.specs.UnpackLaws.{set_below, set_each, row_more, rows_fit, row_array}
+use Rattle.arrays.specs.Unpacked.{values_in}
 use Rattle.arrays.proofs.unpack.Given as goal
 
 abbrev pub invariant-loop-i : goal.invariant-loop-i

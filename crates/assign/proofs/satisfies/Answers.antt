@@ -1,5 +1,4 @@
 -- `assign::satisfies` meets its contract. Assumes nothing.
-use borrow.Author.Rules.{rules}
 use native.Mathlib.Omega.{arith}
 use Rattle.packing.specs.PackingLaws.{packed_stack}
 use Rattle.assign.specs.JudgingLaws.{bytes_few, long, few_arrays, ready, within, long_satisfies, not_satisfied}

@@ -1,14 +1,11 @@
 -- What the loops keep, and what falls.
-use borrow.Author.Rules.{rules}
-use mathlib.Core.Path.{◌≡◌, refl, sym, ap, ap₂, ◌∙◌}
-use Prim.Native.Nat.{ℕ, ◌+◌, ◌-◌, ◌/◌, ◌≤◌}
-use native.Mathlib.Omega.{arith}
+use mathlib.Core.Path.{◌≡◌}
+use Prim.Native.Nat.{◌-◌, ◌/◌, ◌≤◌}
 use lib.Dec.{leb}
 use lib.ListN.{length}
 use Rattle.logic.specs.Table.{op_of}
 use Rattle.logic.specs.Tests.{pick}
 use Rattle.logic.specs.Weight.{sum}
-use Rattle.logic.proofs.Weight.{sum_start, sum_more}
 use Rattle.assignment.proofs.above.Given as goal
 
 abbrev pub invariant-loop-k : goal.invariant-loop-k

@@ -1,18 +1,8 @@
 -- What the loops keep, and what falls.
-use borrow.Author.Rules.{rules}
-use mathlib.Core.Path.{◌≡◌, refl, ap, subst}
-use mathlib.Core.Logic.{inl, inr}
-use Prim.Native.Nat.{ℕ, ◌+◌, ◌-◌, ◌*◌, ◌^◌, ◌≤◌}
-use native.Mathlib.Numerals.{add-one}
-use native.Mathlib.Omega.{arith}
-use borrow.Author.Tests.{not-true, not-false}
-use Rattle.logic.specs.declared.Answer.{Answer}
-use Rattle.logic.specs.Checks.{upto, Passes, Answers}
-use Rattle.logic.specs.CheckLaws.{Yes}
-use Rattle.logic.proofs.CheckLaws.{passes_none, passes_more, upto_refused, answers_passed}
-use Rattle.logic.proofs.Reflect.{fails}
+use mathlib.Core.Path.{◌≡◌}
+use Prim.Native.Nat.{◌+◌, ◌-◌, ◌*◌, ◌^◌, ◌≤◌}
+use Rattle.logic.specs.Checks.{upto, Passes}
 use Rattle.rows.specs.Assigned.{value_checks}
-use Rattle.solutions.proofs.AssignedLaws.{value_test}
 use Rattle.assignment.proofs.in_range.Given as goal
 
 abbrev pub invariant-loop-i : goal.invariant-loop-i

@@ -1,5 +1,4 @@
 -- `assignment::is_value` meets its contract. Assumes nothing.
-use borrow.Author.Rules.{rules}
 use mathlib.Core.Logic.{inl, inr, ⊎_elim}
 use native.Mathlib.Omega.{arith}
 use Rattle.logic.proofs.Reflect.{is_iff, is_le, is_lt}

@@ -1,5 +1,4 @@
 -- `assignment::top` meets its contract. Assumes nothing.
-use borrow.Author.Rules.{rules}
 use native.Mathlib.Omega.{arith}
 use Rattle.cells.specs.Packing.{bit_law}
 use Rattle.assignment.proofs.top.Goals as goal

@@ -1,6 +1,5 @@
 -- `atomfacts::atom_fact` meets its contract. Assumes nothing.
 use native.Mathlib.Omega.{arith}
-use borrow.Author.Rules.{rules}
 use Rattle.atomfacts.specs.AtomLaws.{atom_1, atom_2, atom_3, atom_4}
 use Rattle.atomfacts.proofs.atom_fact.Goals as goal
 

@@ -1,6 +1,5 @@
 -- `atomfacts::diff_fact` meets its contract. Assumes nothing.
 use Rattle.atomfacts.specs.AtomLaws.{diff_there, diff_elsewhere}
-use borrow.Author.Rules.{rules}
 use Rattle.atomfacts.proofs.diff_fact.Goals as goal
 
 pub returns-then-a-b : goal.returns-then-a-b

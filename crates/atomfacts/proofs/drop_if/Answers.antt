@@ -1,6 +1,5 @@
 -- `atomfacts::drop_if` meets its contract. Assumes nothing.
 use Rattle.atomfacts.specs.AtomLaws.{dropped_there}
-use borrow.Author.Rules.{rules}
 use Rattle.atomfacts.proofs.drop_if.Goals as goal
 
 pub returns-then-yes : goal.returns-then-yes

@@ -2,7 +2,6 @@
 use borrow.Author.Tests.{eqb-true}
 use Rattle.atomfacts.specs.AtomLaws.{list_at_nil, list_at_end, not_zero, list_set}
 use Rattle.facts.specs.KnownLaws.{bit_some}
-use borrow.Author.Rules.{rules}
 use Rattle.atomfacts.proofs.list_digits.Goals as goal
 
 pub returns-then-l-eq0 : goal.returns-then-l-eq0

@@ -1,6 +1,5 @@
 -- `atomfacts::list_fact` meets its contract. Assumes nothing.
 use Rattle.atomfacts.specs.AtomLaws.{list_same, list_nil, list_cells}
-use borrow.Author.Rules.{rules}
 use Rattle.atomfacts.proofs.list_fact.Goals as goal
 
 pub returns-then-a-b : goal.returns-then-a-b

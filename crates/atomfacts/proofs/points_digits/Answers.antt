@@ -1,6 +1,5 @@
 -- `atomfacts::points_digits` meets its contract. Assumes nothing.
 use Rattle.atomfacts.specs.AtomLaws.{points_there, points_elsewhere}
-use borrow.Author.Rules.{rules}
 use Rattle.atomfacts.proofs.points_digits.Goals as goal
 
 pub returns-then-l-a : goal.returns-then-l-a

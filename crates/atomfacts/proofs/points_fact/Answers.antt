@@ -1,6 +1,5 @@
 -- `atomfacts::points_fact` meets its contract. Assumes nothing.
 use Rattle.atomfacts.specs.AtomLaws.{points_nil, points_cell}
-use borrow.Author.Rules.{rules}
 use Rattle.atomfacts.proofs.points_fact.Goals as goal
 
 pub returns-then-a-eq0 : goal.returns-then-a-eq0

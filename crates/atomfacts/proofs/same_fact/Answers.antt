@@ -1,6 +1,5 @@
 -- `atomfacts::same_fact` meets its contract. Assumes nothing.
 use Rattle.atomfacts.specs.AtomLaws.{same_there, same_elsewhere}
-use borrow.Author.Rules.{rules}
 use Rattle.atomfacts.proofs.same_fact.Goals as goal
 
 pub returns-then-a-b : goal.returns-then-a-b

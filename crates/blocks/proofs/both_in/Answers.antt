@@ -1,5 +1,4 @@
 -- `blocks::both_in` meets its contract. Assumes nothing.
-use borrow.Author.Rules.{rules}
 use Rattle.blocks.specs.OverLaws.{both_law}
 use Rattle.blocks.proofs.both_in.Goals as goal
 

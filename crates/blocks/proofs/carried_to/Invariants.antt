@@ -1,6 +1,5 @@
 -- What the loops keep, and what falls.
 use Prim.Native.Nat.{◌-◌, ◌≤◌}
-use native.Mathlib.Omega.{arith}
 use Rattle.blocks.proofs.carried_to.Given as goal
 
 abbrev pub invariant-loop-l : goal.invariant-loop-l

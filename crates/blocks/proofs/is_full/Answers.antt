@@ -1,5 +1,4 @@
 -- `blocks::is_full` meets its contract. Assumes nothing.
-use borrow.Author.Rules.{rules}
 use mathlib.Core.Path.{sym, ◌∙◌, subst}
 use Prim.Native.Nat.{ℕ, suc, ◌+◌, ◌<◌}
 use borrow.Author.Tests.{ltb-true}

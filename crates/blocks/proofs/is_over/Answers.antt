@@ -1,5 +1,4 @@
 -- `blocks::is_over` meets its contract. Assumes nothing.
-use borrow.Author.Rules.{rules}
 use Prim.Native.Nat.{◌+◌}
 use native.Mathlib.Omega.{arith}
 use Rattle.blocks.specs.OverLaws.{over_digit}

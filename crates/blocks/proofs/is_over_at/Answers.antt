@@ -1,5 +1,4 @@
 -- `blocks::is_over_at` meets its contract. Assumes nothing.
-use borrow.Author.Rules.{rules}
 use native.Mathlib.Omega.{arith}
 use Rattle.logic.proofs.Reflect.{false_true}
 use Rattle.blocks.specs.OverLaws.{over_full, over_worse}

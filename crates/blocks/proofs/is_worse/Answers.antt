@@ -1,5 +1,4 @@
 -- `blocks::is_worse` meets its contract. Assumes nothing.
-use borrow.Author.Rules.{rules}
 use Rattle.logic.proofs.Reflect.{false_true}
 use Rattle.blocks.proofs.is_worse.Goals as goal
 

@@ -1,6 +1,4 @@
 -- `blocks::level` meets its contract. Assumes nothing.
-use borrow.Author.Rules.{rules}
-use Prim.Native.Nat.{◌≤◌}
 use native.Mathlib.Omega.{arith}
 use Rattle.blocks.proofs.level.Goals as goal
 

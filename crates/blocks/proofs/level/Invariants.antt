@@ -1,7 +1,5 @@
 -- What the loops keep, and what falls.
-use borrow.Author.Rules.{rules}
 use Prim.Native.Nat.{◌≤◌}
-use native.Mathlib.Omega.{arith}
 use Rattle.blocks.proofs.level.Given as goal
 
 abbrev pub invariant-loop-j : goal.invariant-loop-j

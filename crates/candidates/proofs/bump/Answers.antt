@@ -1,7 +1,5 @@
 -- `candidates::bump` meets its contract. Assumes nothing.
-use native.Mathlib.Omega.{arith}
 use Rattle.candidates.specs.StepLaws.{cleared_base, bumped}
-use borrow.Author.Rules.{rules}
 use Rattle.candidates.proofs.bump.Goals as goal
 
 pub carry-requires : goal.carry-requires

@@ -1,9 +1,9 @@
 -- `candidates::carry` meets its contract. Assumes nothing.
-use Prim.Native.Nat.{◌+◌, ◌-◌}
+use Prim.Native.Nat.{◌+◌}
 use native.Mathlib.Numerals.{add-one}
 use native.Mathlib.Omega.{arith}
 use Rattle.cells.specs.Packing.{cells_lt}
-use Rattle.candidates.specs.StepLaws.{Turned, turned_none, turned_more, carries_more, carries_last}
+use Rattle.candidates.specs.StepLaws.{turned_none, turned_more, carries_more, carries_last}
 use Rattle.candidates.proofs.carry.Goals as goal
 
 pub loop-i-init : goal.loop-i-init

@@ -1,7 +1,6 @@
 -- `candidates::cleared` meets its contract. Assumes nothing.
 use native.Mathlib.Omega.{arith}
 use Rattle.candidates.specs.StepLaws.{cleared_shift}
-use borrow.Author.Rules.{rules}
 use Rattle.candidates.proofs.cleared.Goals as goal
 
 pub returns : goal.returns

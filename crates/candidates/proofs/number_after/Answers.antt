@@ -1,5 +1,4 @@
 -- `candidates::number_after` meets its contract. Assumes nothing.
-use borrow.Author.Rules.{rules}
 use mathlib.Core.Path.{◌∙◌, sym, ap}
 use Prim.Native.Nat.{ℕ}
 use native.Mathlib.Nat.{div-le_self}

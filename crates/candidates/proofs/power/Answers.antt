@@ -1,10 +1,9 @@
 -- `candidates::power` meets its contract. Assumes nothing.
-use Prim.Native.Nat.{ℕ, ◌-◌, ◌*◌, ◌^◌, ◌≤◌}
+use Prim.Native.Nat.{ℕ, ◌*◌, ◌^◌}
 use mathlib.Core.Path.{◌≡◌, sym, ◌∙◌, ap}
 use native.Mathlib.Nat.{pow-zero, pow-suc}
 use native.Mathlib.Numerals.{add-one}
 use native.Mathlib.Omega.{arith}
-use Rattle.cells.specs.Cells.{most}
 use Rattle.candidates.specs.CounterLaws.{power_more}
 use Rattle.candidates.proofs.power.Goals as goal
 

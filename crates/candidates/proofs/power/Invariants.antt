@@ -1,11 +1,7 @@
 -- What the loops keep, and what falls.
-use Prim.Native.Nat.{ℕ, ◌-◌, ◌*◌, ◌^◌, ◌≤◌}
-use mathlib.Core.Path.{◌≡◌, sym, ◌∙◌, ap}
-use native.Mathlib.Nat.{pow-zero, pow-suc}
-use native.Mathlib.Numerals.{add-one}
-use native.Mathlib.Omega.{arith}
+use Prim.Native.Nat.{◌-◌, ◌^◌, ◌≤◌}
+use mathlib.Core.Path.{◌≡◌}
 use Rattle.cells.specs.Cells.{most}
-use Rattle.candidates.specs.CounterLaws.{power_more}
 use Rattle.candidates.proofs.power.Given as goal
 
 abbrev pub invariant-loop-i : goal.invariant-loop-i

@@ -1,15 +1,11 @@
 -- What the loops keep, and what falls.
-use borrow.Author.Rules.{rules}
-use Prim.Native.Nat.{ℕ, ◌+◌, ◌-◌, ◌<◌, ◌≤◌}
-use mathlib.Core.Path.{◌≡◌, refl, ◌∙◌, ap}
+use Prim.Native.Nat.{◌-◌, ◌≤◌}
+use mathlib.Core.Path.{◌≡◌}
 use mathlib.Core.List.{◌++◌}
-use native.Mathlib.Omega.{arith}
-use lib.ListN.{length, drop, length-set}
+use lib.ListN.{length, drop}
 use Rattle.logic.specs.Candidates.{bytes_to}
 use Rattle.cells.specs.Cells.{cells}
-use Rattle.cells.specs.Packing.{cells_lt}
 use Rattle.candidates.specs.Counter.{plus}
-use Rattle.candidates.specs.Written.{bytes_none, bytes_more, plus_at}
 use Rattle.candidates.proofs.put.Given as goal
 
 abbrev pub invariant-loop-i : goal.invariant-loop-i

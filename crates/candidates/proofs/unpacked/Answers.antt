@@ -1,8 +1,8 @@
 -- `candidates::unpacked` meets its contract. Assumes nothing.
-use Prim.Native.Nat.{◌+◌, ◌-◌, ◌<◌}
+use Prim.Native.Nat.{◌<◌}
 use native.Mathlib.Nat.{mod-lt}
 use native.Mathlib.Omega.{arith}
-use Rattle.candidates.specs.UnpackLaws.{Unpacking, unpacking_none, unpacking_more, unpacking_done}
+use Rattle.candidates.specs.UnpackLaws.{unpacking_none, unpacking_more, unpacking_done}
 use Rattle.candidates.proofs.unpacked.Goals as goal
 
 pub loop-i-init : goal.loop-i-init

@@ -1,8 +1,6 @@
 -- What the loops keep, and what falls.
-use Prim.Native.Nat.{◌+◌, ◌-◌, ◌<◌}
-use native.Mathlib.Nat.{mod-lt}
-use native.Mathlib.Omega.{arith}
-use Rattle.candidates.specs.UnpackLaws.{Unpacking, unpacking_none, unpacking_more, unpacking_done}
+use Prim.Native.Nat.{◌-◌}
+use Rattle.candidates.specs.UnpackLaws.{Unpacking}
 use Rattle.candidates.proofs.unpacked.Given as goal
 
 abbrev pub invariant-loop-i : goal.invariant-loop-i

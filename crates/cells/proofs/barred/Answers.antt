@@ -1,6 +1,5 @@
 -- `cells::barred` meets its contract. Assumes nothing.
 use mathlib.Core.Path.{sym, subst}
-use borrow.Author.Rules.{rules}
 use Rattle.logic.specs.declared.Profile.{Profile}
 use Rattle.cells.specs.Cells.{cells, Barred}
 use Rattle.cells.specs.Unnamed.{barred_none}

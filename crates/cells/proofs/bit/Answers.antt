@@ -1,5 +1,4 @@
 -- `cells::bit` meets its contract. Assumes nothing.
-use borrow.Author.Rules.{rules}
 use Rattle.cells.specs.Packing.{bit_law}
 use Rattle.cells.proofs.bit.Goals as goal
 

@@ -4,7 +4,6 @@ use Prim.Native.Nat.{suc, ◌^◌, ◌<◌}
 use native.Mathlib.Nat.{one-le-pow}
 use native.Mathlib.Omega.{arith}
 use borrow.Author.Tests.{le-leb, lt-leb}
-use borrow.Author.Rules.{rules}
 use Rattle.cells.specs.Unnamed.{bit_up_to_lt}
 use Rattle.cells.proofs.bit_up_to.Goals as goal
 

@@ -1,5 +1,4 @@
 -- `cells::cell` meets its contract. Assumes nothing.
-use borrow.Author.Rules.{rules}
 use Rattle.cells.specs.Packing.{cell_none, cell_law}
 use Rattle.cells.proofs.cell.Goals as goal
 

@@ -1,8 +1,6 @@
 -- `cells::is_list` meets its contract. Assumes nothing.
 use native.Mathlib.Omega.{arith}
-use borrow.Author.Rules.{rules}
 use Rattle.cells.specs.Packing.{cells_lt}
-use Rattle.cells.specs.Loops.{Walk}
 use Rattle.cells.specs.Lists.{walk_start, walk_there, walk_short, walk_broken, walk_some, walk_on}
 use Rattle.cells.proofs.is_list.Goals as goal
 

@@ -1,9 +1,5 @@
 -- What the loops keep, and what falls.
-use native.Mathlib.Omega.{arith}
-use borrow.Author.Rules.{rules}
-use Rattle.cells.specs.Packing.{cells_lt}
 use Rattle.cells.specs.Loops.{Walk}
-use Rattle.cells.specs.Lists.{walk_start, walk_there, walk_short, walk_broken, walk_some, walk_on}
 use Rattle.cells.proofs.is_list.Given as goal
 
 abbrev pub invariant-loop-k : goal.invariant-loop-k

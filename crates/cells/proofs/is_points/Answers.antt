@@ -1,7 +1,6 @@
 -- `cells::is_points` meets its contract. Assumes nothing.
 use native.Mathlib.Numerals.{add-one}
 use native.Mathlib.Omega.{arith}
-use borrow.Author.Rules.{rules}
 use Rattle.cells.specs.Heaps.{is_no_cell, is_one_cell}
 use Rattle.cells.proofs.is_points.Goals as goal
 

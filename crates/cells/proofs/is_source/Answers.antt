@@ -1,5 +1,4 @@
 -- `cells::is_source` meets its contract. Assumes nothing.
-use borrow.Author.Rules.{rules}
 use Rattle.cells.specs.Sources.{not_source, source_law}
 use Rattle.cells.proofs.is_source.Goals as goal
 

@@ -1,5 +1,4 @@
 -- `cells::is_target` meets its contract. Assumes nothing.
-use borrow.Author.Rules.{rules}
 use Rattle.cells.specs.Sources.{target_law}
 use Rattle.cells.proofs.is_target.Goals as goal
 

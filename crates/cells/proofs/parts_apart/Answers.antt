@@ -1,6 +1,5 @@
 -- `cells::parts_apart` meets its contract. Assumes nothing.
 use mathlib.Core.Path.{refl}
-use borrow.Author.Rules.{rules}
 use Rattle.cells.specs.Tables.{is_clear, clear_nothing}
 use Rattle.cells.proofs.parts_apart.Goals as goal
 

@@ -1,5 +1,4 @@
 -- `cells::placed` meets its contract. Assumes nothing.
-use borrow.Author.Rules.{rules}
 use Rattle.cells.specs.Packing.{placed_law}
 use Rattle.cells.proofs.placed.Goals as goal
 

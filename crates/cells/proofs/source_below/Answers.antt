@@ -1,8 +1,7 @@
 -- `cells::source_below` meets its contract. Assumes nothing.
 use mathlib.Core.Path.{refl, subst}
-use Prim.Native.Nat.{zero-le, ◌≤◌}
+use Prim.Native.Nat.{zero-le}
 use native.Mathlib.Omega.{arith}
-use borrow.Author.Rules.{rules}
 use Rattle.logic.proofs.Reflect.{fails}
 use Rattle.cells.specs.Loops.{NoSource}
 use Rattle.cells.specs.Sources.{no_source_next}

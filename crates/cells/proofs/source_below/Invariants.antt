@@ -1,11 +1,6 @@
 -- What the loops keep, and what falls.
-use mathlib.Core.Path.{refl, subst}
-use Prim.Native.Nat.{zero-le, ◌≤◌}
-use native.Mathlib.Omega.{arith}
-use borrow.Author.Rules.{rules}
-use Rattle.logic.proofs.Reflect.{fails}
+use Prim.Native.Nat.{◌≤◌}
 use Rattle.cells.specs.Loops.{NoSource}
-use Rattle.cells.specs.Sources.{no_source_next}
 use Rattle.cells.proofs.source_below.Given as goal
 
 abbrev pub invariant-loop-l : goal.invariant-loop-l

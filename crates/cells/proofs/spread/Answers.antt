@@ -1,6 +1,5 @@
 -- `cells::spread` meets its contract. Assumes nothing.
 use native.Mathlib.Omega.{arith}
-use borrow.Author.Rules.{rules}
 use Rattle.cells.specs.Packing.{spread_small, spread_law}
 use Rattle.cells.proofs.spread.Goals as goal
 

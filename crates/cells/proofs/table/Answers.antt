@@ -1,9 +1,5 @@
 -- `cells::table` meets its contract. Assumes nothing.
-use Prim.Native.Nat.{suc, ◌-◌, ◌≤◌}
 use native.Mathlib.Omega.{arith}
-use borrow.Author.Rules.{rules}
-use Rattle.cells.specs.Cells.{most}
-use Rattle.cells.specs.Loops.{Tabling}
 use Rattle.cells.specs.Tables.{tabled_nothing, tabling_none, tabling_more, tabling_done}
 use Rattle.cells.proofs.table.Goals as goal
 

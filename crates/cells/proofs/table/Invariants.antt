@@ -1,10 +1,7 @@
 -- What the loops keep, and what falls.
 use Prim.Native.Nat.{suc, ◌-◌, ◌≤◌}
-use native.Mathlib.Omega.{arith}
-use borrow.Author.Rules.{rules}
 use Rattle.cells.specs.Cells.{most}
 use Rattle.cells.specs.Loops.{Tabling}
-use Rattle.cells.specs.Tables.{tabled_nothing, tabling_none, tabling_more, tabling_done}
 use Rattle.cells.proofs.table.Given as goal
 
 abbrev pub invariant-loop-l : goal.invariant-loop-l

@@ -1,6 +1,5 @@
 -- `cells::taken` meets its contract. Assumes nothing.
 use native.Mathlib.Omega.{arith}
-use borrow.Author.Rules.{rules}
 use Rattle.cells.specs.Taken.{tops_small, tops_fit, taken_law}
 use Rattle.cells.proofs.taken.Goals as goal
 

@@ -1,5 +1,4 @@
 -- `cells::touched` meets its contract. Assumes nothing.
-use borrow.Author.Rules.{rules}
 use Rattle.cells.specs.Tables.{touched_none, touched_law}
 use Rattle.cells.proofs.touched.Goals as goal
 

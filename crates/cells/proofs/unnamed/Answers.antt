@@ -1,9 +1,7 @@
 -- `cells::unnamed` meets its contract. Assumes nothing.
-use Prim.Native.Nat.{◌+◌, ◌≤◌}
+use Prim.Native.Nat.{◌+◌}
 use native.Mathlib.Nat.{one-le-pow}
 use native.Mathlib.Omega.{arith}
-use borrow.Author.Rules.{rules}
-use Rattle.cells.specs.Loops.{Naming}
 use Rattle.cells.specs.Unnamed.{naming_first, naming_next, naming_last}
 use Rattle.cells.proofs.unnamed.Goals as goal
 

@@ -1,10 +1,6 @@
 -- What the loops keep, and what falls.
-use Prim.Native.Nat.{◌+◌, ◌≤◌}
-use native.Mathlib.Nat.{one-le-pow}
-use native.Mathlib.Omega.{arith}
-use borrow.Author.Rules.{rules}
+use Prim.Native.Nat.{◌≤◌}
 use Rattle.cells.specs.Loops.{Naming}
-use Rattle.cells.specs.Unnamed.{naming_first, naming_next, naming_last}
 use Rattle.cells.proofs.unnamed.Given as goal
 
 abbrev pub invariant-loop-i : goal.invariant-loop-i

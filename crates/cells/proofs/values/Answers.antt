@@ -1,6 +1,4 @@
 -- `cells::values` meets its contract. Assumes nothing.
-use native.Mathlib.Omega.{arith}
-use Rattle.cells.specs.Loops.{Noting}
 use Rattle.cells.specs.Sources.{noting_first, noting_low, noting_next, noting_last}
 use Rattle.cells.proofs.values.Goals as goal
 

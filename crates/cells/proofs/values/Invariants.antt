@@ -1,7 +1,5 @@
 -- What the loops keep, and what falls.
-use native.Mathlib.Omega.{arith}
 use Rattle.cells.specs.Loops.{Noting}
-use Rattle.cells.specs.Sources.{noting_first, noting_low, noting_next, noting_last}
 use Rattle.cells.proofs.values.Given as goal
 
 abbrev pub invariant-loop-x : goal.invariant-loop-x

@@ -1,7 +1,6 @@
 -- `contents::part` meets its contract. Assumes nothing.
-use borrow.Author.Rules.{rules}
 use native.Mathlib.Omega.{arith}
-use Rattle.logic.proofs.BookLaws.{stretch_fits, stretch_short, stretch_is}
+use Rattle.logic.proofs.BookLaws.{stretch_short, stretch_is}
 use Rattle.contents.proofs.part.Goals as goal
 
 pub end_of-end-requires : goal.end_of-end-requires

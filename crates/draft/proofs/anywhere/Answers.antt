@@ -1,5 +1,4 @@
 -- `draft::anywhere` meets its contract. Assumes nothing.
-use borrow.Author.Rules.{rules}
 use native.Mathlib.Omega.{arith}
 use Rattle.draft.specs.DraftLaws.{adds_adds, added, too_many}
 use Rattle.draft.proofs.anywhere.Goals as goal

@@ -1,5 +1,4 @@
 -- `draft::joined` meets its contract. Assumes nothing.
-use borrow.Author.Rules.{rules}
 use native.Mathlib.Omega.{arith}
 use Rattle.draft.specs.DraftLaws.{join_nodes}
 use Rattle.draft.proofs.joined.Goals as goal

@@ -1,5 +1,4 @@
 -- `draft::one_node` meets its contract. Assumes nothing.
-use borrow.Author.Rules.{rules}
 use native.Mathlib.Omega.{arith}
 use Rattle.draft.specs.DraftLaws.{added, too_many}
 use Rattle.draft.proofs.one_node.Goals as goal

@@ -1,5 +1,4 @@
 -- `draft::related` meets its contract. Assumes nothing.
-use borrow.Author.Rules.{rules}
 use native.Mathlib.Omega.{arith}
 use Rattle.draft.specs.DraftLaws.{atom_nodes, equal_nodes, distinct_nodes, pto_nodes, ls_nodes}
 use Rattle.draft.proofs.related.Goals as goal

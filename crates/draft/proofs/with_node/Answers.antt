@@ -1,5 +1,4 @@
 -- `draft::with_node` meets its contract. Assumes nothing.
-use borrow.Author.Rules.{rules}
 use Rattle.draft.specs.DraftLaws.{one_more_node}
 use Rattle.draft.proofs.with_node.Goals as goal
 

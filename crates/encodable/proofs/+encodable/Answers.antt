@@ -1,7 +1,5 @@
 -- `encodable::encodable` meets its contract: the node number falls at every call. Assumes nothing.
-use Prim.Native.Nat.{ℕ, ◌<◌}
 use native.Mathlib.Omega.{arith}
-use borrow.Author.Rules.{rules}
 use Rattle.logic.proofs.KnownLaws.{operator_some, lower}
 use Rattle.encodable.specs.EncodableLaws.{encodable_atom, encodable_under, encodable_first, encodable_guarded, encodable_second}
 use Rattle.encodable.proofs.+encodable.Goals as goal

@@ -1,7 +1,5 @@
 -- `encodable::flat` meets its contract: the node number falls at every call. Assumes nothing.
-use Prim.Native.Nat.{ℕ, ◌<◌}
 use native.Mathlib.Omega.{arith}
-use borrow.Author.Rules.{rules}
 use Rattle.logic.proofs.KnownLaws.{operator_some, lower}
 use Rattle.encodable.specs.EncodableLaws.{flat_atom, flat_deep, flat_first, flat_under, flat_second}
 use Rattle.encodable.proofs.+flat.Goals as goal

@@ -1,6 +1,4 @@
 -- `encoder::encode` meets its contract. Assumes nothing.
-use borrow.Author.Rules.{rules}
-use borrow.Author.Tests.{not-true, not-false}
 use native.Mathlib.Omega.{arith}
 use Rattle.logic.proofs.OpenLaws.{read_given, opened, vars_low, locs_low, path_low, known}
 use Rattle.encoder.specs.EncodeLaws.{read_refused, not_encodable, too_short, writable, encoded}

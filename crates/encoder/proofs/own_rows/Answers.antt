@@ -1,7 +1,6 @@
 -- `encoder::own_rows` meets its contract. Assumes nothing.
 use borrow.Author.Rules.{rules}
 use mathlib.Core.Path.{◌≡◌, sym, ◌∙◌, ap, ap₂}
-use mathlib.Core.Logic.{⊎_elim}
 use Prim.Native.Nat.{ℕ, ◌+◌}
 use native.Mathlib.Omega.{arith}
 use Rattle.encoder.specs.EncodeLaws.{own_pair, own_ls, own_one, own_but, own_sep, own_sept}

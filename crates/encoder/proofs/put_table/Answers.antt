@@ -1,5 +1,4 @@
 -- `encoder::put_table` meets its contract. Assumes nothing.
-use borrow.Author.Rules.{rules}
 use native.Mathlib.Omega.{arith}
 use Rattle.logic.specs.Table.{tree}
 use Rattle.logic.specs.Book.{root}

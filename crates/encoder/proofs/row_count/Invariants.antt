@@ -1,15 +1,10 @@
 -- What the loops keep, and what falls.
-use borrow.Author.Rules.{rules}
-use mathlib.Core.Path.{◌≡◌, refl, sym, ap, ◌∙◌, ap₂}
-use Prim.Native.Nat.{ℕ, ◌+◌, ◌-◌, ◌*◌, ◌/◌, ◌≤◌}
+use mathlib.Core.Path.{◌≡◌}
+use Prim.Native.Nat.{◌-◌, ◌*◌, ◌/◌, ◌≤◌}
 use lib.ListN.{length}
-use native.Mathlib.Omega.{arith}
 use Rattle.logic.specs.Table.{op_of}
 use Rattle.rows.specs.Bounds.{own_row_count}
 use Rattle.logic.specs.Weight.{sum}
-use Rattle.logic.proofs.Weight.{sum_start, sum_more}
-use Rattle.logic.proofs.KnownLaws.{operator_some}
-use Rattle.encoder.specs.EncodeLaws.{rows_are}
 use Rattle.encoder.proofs.row_count.Given as goal
 
 abbrev pub invariant-loop-k : goal.invariant-loop-k

@@ -1,5 +1,4 @@
 -- `encoder::write` meets its contract. Assumes nothing.
-use borrow.Author.Rules.{rules}
 use native.Mathlib.Omega.{arith}
 use Rattle.encoder.specs.EncodeLaws.{bytes_low, room_behind, book_written}
 use Rattle.encoder.proofs.write.Goals as goal

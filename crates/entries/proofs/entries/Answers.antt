@@ -1,7 +1,5 @@
 -- `entries::entries` meets its contract. Assumes nothing.
-use borrow.Author.Rules.{rules}
 use mathlib.Core.Logic.{inl, inr}
-use borrow.Author.Tests.{not-true, not-false}
 use Rattle.logic.specs.Checks.{◌then◌, Answers}
 use Rattle.logic.proofs.Reflect.{fails}
 use Rattle.entries.proofs.entries.Goals as goal

@@ -1,5 +1,4 @@
 -- `entries::is_first_placed` meets its contract. Assumes nothing.
-use borrow.Author.Rules.{rules}
 use mathlib.Core.Path.{◌∙◌}
 use Prim.Native.Nat.{◌+◌}
 use lib.ListN.{length}

@@ -1,5 +1,4 @@
 -- `entries::is_kind` meets its contract. Assumes nothing.
-use borrow.Author.Rules.{rules}
 use Prim.Native.Nat.{◌+◌}
 use native.Mathlib.Omega.{arith}
 use Rattle.logic.proofs.Reflect.{is_iff, is_eq}

@@ -1,5 +1,4 @@
 -- `entries::is_second_placed` meets its contract. Assumes nothing.
-use borrow.Author.Rules.{rules}
 use Prim.Native.Nat.{◌+◌}
 use lib.ListN.{length}
 use native.Mathlib.Omega.{arith}

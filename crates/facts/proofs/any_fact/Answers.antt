@@ -1,6 +1,5 @@
 -- `facts::any_fact` meets its contract. Assumes nothing.
 use Rattle.facts.specs.KnownLaws.{bit_some, any_as}
-use borrow.Author.Rules.{rules}
 use Rattle.facts.proofs.any_fact.Goals as goal
 
 pub overflow_sub-result : goal.overflow_sub-result

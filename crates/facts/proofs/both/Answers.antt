@@ -1,6 +1,5 @@
 -- `facts::both` meets its contract. Assumes nothing.
 use Rattle.facts.specs.KnownLaws.{joined_conj}
-use borrow.Author.Rules.{rules}
 use Rattle.facts.proofs.both.Goals as goal
 
 pub returns : goal.returns

@@ -1,6 +1,5 @@
 -- `facts::digit_bit` meets its contract. Assumes nothing.
 use Rattle.facts.specs.KnownLaws.{digit_bit_law}
-use borrow.Author.Rules.{rules}
 use Rattle.facts.proofs.digit_bit.Goals as goal
 
 pub returns : goal.returns

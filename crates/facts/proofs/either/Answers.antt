@@ -1,6 +1,5 @@
 -- `facts::either` meets its contract. Assumes nothing.
 use Rattle.facts.specs.KnownLaws.{joined_first, joined_second, joined_disj}
-use borrow.Author.Rules.{rules}
 use Rattle.facts.proofs.either.Goals as goal
 
 pub returns-then-a-eq0 : goal.returns-then-a-eq0

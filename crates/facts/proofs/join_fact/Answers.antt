@@ -1,6 +1,5 @@
 -- `facts::join_fact` meets its contract. Assumes nothing.
 use native.Mathlib.Omega.{arith}
-use borrow.Author.Rules.{rules}
 use Rattle.facts.specs.OperatorLaws.{joined_5, joined_6, joined_9, joined_10}
 use Rattle.facts.proofs.join_fact.Goals as goal
 

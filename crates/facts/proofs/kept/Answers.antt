@@ -1,6 +1,5 @@
 -- `facts::kept` meets its contract. Assumes nothing.
 use Rattle.facts.specs.KnownLaws.{kept_nothing}
-use borrow.Author.Rules.{rules}
 use Rattle.facts.proofs.kept.Goals as goal
 
 pub returns-else-c-eq1 : goal.returns-else-c-eq1

@@ -1,6 +1,5 @@
 -- `facts::left_of` meets its contract. Assumes nothing.
 use Rattle.facts.specs.KnownLaws.{joined_sept}
-use borrow.Author.Rules.{rules}
 use Rattle.facts.proofs.left_of.Goals as goal
 
 pub returns : goal.returns

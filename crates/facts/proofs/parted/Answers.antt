@@ -1,6 +1,5 @@
 -- `facts::parted` meets its contract. Assumes nothing.
 use Rattle.facts.specs.KnownLaws.{joined_sep}
-use borrow.Author.Rules.{rules}
 use Rattle.facts.proofs.parted.Goals as goal
 
 pub returns : goal.returns

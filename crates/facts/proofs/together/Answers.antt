@@ -2,7 +2,6 @@
 use mathlib.Core.Path.{refl}
 use mathlib.Core.Logic.{inl, inr}
 use native.Mathlib.Omega.{arith}
-use borrow.Author.Rules.{rules}
 use Rattle.facts.proofs.together.Goals as goal
 
 pub returns-then-sum-eq0 : goal.returns-then-sum-eq0

@@ -1,5 +1,4 @@
 -- `import::import` meets its contract. Assumes nothing.
-use borrow.Author.Rules.{rules}
 use native.Mathlib.Omega.{arith}
 use Rattle.import.specs.WholeLaws.{import_bounds, import_refused, import_short, import_written}
 use Rattle.import.proofs.import.Goals as goal

@@ -1,5 +1,4 @@
 -- `import::whole` meets its contract. Assumes nothing.
-use borrow.Author.Rules.{rules}
 use Rattle.import.specs.WholeLaws.{whole_refused, whole_open, whole_read}
 use Rattle.import.proofs.whole.Goals as goal
 

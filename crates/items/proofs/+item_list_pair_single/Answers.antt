@@ -1,10 +1,7 @@
 -- `items::item`, `list`, `pair` and `single`, which call each other, meet their contracts: the rest of the text falls. Assumes
 -- nothing.
-use borrow.Author.Rules.{rules}
 use mathlib.Core.Path.{refl, subst, ◌∙◌}
-use Prim.Native.Nat.{ℕ, ◌+◌, ◌*◌, ◌-◌, ◌<◌}
 use native.Mathlib.Omega.{arith}
-use lib.ListN.{length}
 use Rattle.logic.proofs.Reflect.{fails}
 use Rattle.grammar.specs.Machine.{only_one, first_of}
 use Rattle.words.specs.Words.{WordIs}

@@ -1,9 +1,7 @@
 -- `items::empty` meets its contract. Assumes nothing.
-use borrow.Author.Rules.{rules}
 use mathlib.Core.Path.{◌≡◌, subst}
 use mathlib.Core.Bool.{true, false}
 use native.Mathlib.Omega.{arith}
-use borrow.Author.Tests.{not-true, not-false}
 use Rattle.logic.proofs.Reflect.{fails}
 use Rattle.words.specs.Words.{EmpIs}
 use Rattle.words.specs.declared.Next.TheVariants.{At, Bad}

@@ -1,5 +1,4 @@
 -- `items::finished` meets its contract. Assumes nothing.
-use borrow.Author.Rules.{rules}
 use mathlib.Core.Path.{refl}
 use Rattle.items.proofs.finished.Goals as goal
 

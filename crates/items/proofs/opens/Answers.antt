@@ -1,5 +1,4 @@
 -- `items::opens` meets its contract. Assumes nothing.
-use borrow.Author.Rules.{rules}
 use native.Mathlib.Omega.{arith}
 use Rattle.logic.proofs.Reflect.{is_iff, is_eq, false_true}
 use Rattle.items.proofs.opens.Goals as goal

@@ -1,5 +1,4 @@
 -- `items::relation` meets its contract. Assumes nothing.
-use borrow.Author.Rules.{rules}
 use Rattle.draft.specs.Drafts.{atom_of}
 use Rattle.items.specs.ListLaws.{relates_are, term_refused, other_refused, relation_read}
 use Rattle.items.proofs.relation.Goals as goal

@@ -1,18 +1,15 @@
 -- The judge's core meets its contracts: one proof, as its functions call each other. At each call the node number falls, or it
 -- stays and the step within the node falls: node, connective, trial or search, location, digit, children. Assumes nothing.
-use mathlib.Core.Path.{◌≡◌, refl, sym, subst, ◌∙◌, ap}
+use mathlib.Core.Path.{refl, sym, subst, ◌∙◌, ap}
 use mathlib.Core.Bool.{not}
-use Prim.Native.Nat.{ℕ, zero-le, ◌+◌, ◌*◌, ◌-◌, ◌<◌, ◌≤◌}
+use Prim.Native.Nat.{zero-le, ◌<◌}
 use native.Mathlib.Omega.{arith}
-use lib.ListN.{length}
-use borrow.Author.Rules.{rules}
-use borrow.Author.Tests.{not-true, not-false}
 use Rattle.logic.proofs.Agree.{heap_more}
 use Rattle.logic.proofs.Reflect.{fails}
 use Rattle.cells.specs.Cells.{cells, SourceBelow}
 use Rattle.pairs.specs.PairLaws.{inside_short}
 use Rattle.pairs.specs.Steps.{sub_le}
-use Rattle.judge.specs.Setting.{vars_of, locs_of, profile_of, stack_of, truth_at, first_at, second_at, serves_at, Tried, Walking}
+use Rattle.judge.specs.Setting.{truth_at}
 use Rattle.judge.specs.Joins.{operator_low, operator_high, lower_a, lower_b, ready_below, truth_5, truth_6, truth_7, truth_8, truth_9, truth_10, and_first, and_second}
 use Rattle.judge.specs.Trial.{chosen_any, taken_small, sub_within, trying_none, trying_found, part_is_heap, rest_is_heap, serves_not_apart, serves_both, sep_out}
 use Rattle.judge.specs.Walk.{walk_trying, walk_first, walk_next}

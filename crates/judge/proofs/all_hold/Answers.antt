@@ -1,5 +1,4 @@
 -- `judge::all_hold` meets its contract. Assumes nothing.
-use borrow.Author.Rules.{rules}
 use Rattle.pairs.specs.PairLaws.{lists_fewer}
 use Rattle.judge.proofs.all_hold.Goals as goal
 

@@ -1,7 +1,6 @@
 -- `judge::atom` meets its contract. Assumes nothing.
 use mathlib.Core.Path.{refl, ◌∙◌, ap}
 use native.Mathlib.Omega.{arith}
-use borrow.Author.Rules.{rules}
 use Rattle.cells.specs.Cells.{cells}
 use Rattle.judge.specs.Atoms.{variables, locations, same_there, same_elsewhere, diff_there, diff_elsewhere, points_to, list_from}
 use Rattle.judge.proofs.atom.Goals as goal

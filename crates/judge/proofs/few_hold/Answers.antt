@@ -1,5 +1,4 @@
 -- `judge::few_hold` meets its contract. Assumes nothing.
-use borrow.Author.Rules.{rules}
 use Rattle.pairs.specs.PairLaws.{lists_fewer}
 use Rattle.judge.proofs.few_hold.Goals as goal
 

@@ -1,5 +1,4 @@
 -- `judge::fits` meets its contract. Assumes nothing.
-use borrow.Author.Rules.{rules}
 use Rattle.judge.specs.Fitting.{fits_short, fits_not}
 use Rattle.judge.proofs.fits.Goals as goal
 

@@ -1,5 +1,4 @@
 -- `judge::node_holds` meets its contract. Assumes nothing.
-use borrow.Author.Rules.{rules}
 use native.Mathlib.Omega.{arith}
 use Rattle.judge.specs.Joins.{operator_low, operator_high}
 use Rattle.judge.proofs.node_holds.Goals as goal

@@ -1,6 +1,5 @@
 -- `levels::exchanged` meets its contract. Assumes nothing.
 use Rattle.levels.specs.SwapLaws.{exchanged_first, exchanged_second, exchanged_other}
-use borrow.Author.Rules.{rules}
 use Rattle.levels.proofs.exchanged.Goals as goal
 
 pub returns-then-l-a : goal.returns-then-l-a

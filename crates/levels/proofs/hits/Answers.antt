@@ -1,6 +1,5 @@
 -- `levels::hits` meets its contract. Assumes nothing.
 use Rattle.levels.specs.LevelLaws.{hits_there, hits_elsewhere}
-use borrow.Author.Rules.{rules}
 use Rattle.levels.proofs.hits.Goals as goal
 
 pub returns-then-d-l : goal.returns-then-d-l

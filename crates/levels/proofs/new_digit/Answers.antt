@@ -1,7 +1,6 @@
 -- `levels::new_digit` meets its contract. Assumes nothing.
 use native.Mathlib.Omega.{arith}
 use Rattle.levels.specs.SwapLaws.{digit_none, digit_some}
-use borrow.Author.Rules.{rules}
 use Rattle.levels.proofs.new_digit.Goals as goal
 
 pub returns-then-d-eq0 : goal.returns-then-d-eq0

@@ -1,6 +1,5 @@
 -- `levels::out_most` meets its contract. Assumes nothing.
 use Rattle.levels.specs.LevelLaws.{out_none_there, out_some_there, out_nil, out_free}
-use borrow.Author.Rules.{rules}
 use Rattle.levels.proofs.out_most.Goals as goal
 
 pub returns-then-cell-eq0 : goal.returns-then-cell-eq0

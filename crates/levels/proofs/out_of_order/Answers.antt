@@ -1,7 +1,6 @@
 -- `levels::out_of_order` meets its contract. Assumes nothing.
 use mathlib.Core.Path.{refl}
 use Rattle.levels.specs.LevelLaws.{order_ok, order_broken}
-use borrow.Author.Rules.{rules}
 use Rattle.levels.proofs.out_of_order.Goals as goal
 
 pub returns-then-d-eq0 : goal.returns-then-d-eq0

@@ -1,5 +1,4 @@
 -- `levels::out_of_order_from` meets its contract. Assumes nothing.
-use Prim.Native.Nat.{◌≤◌}
 use native.Mathlib.Omega.{arith}
 use Rattle.levels.proofs.out_of_order_from.Goals as goal
 

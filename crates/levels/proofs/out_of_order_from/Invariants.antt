@@ -1,6 +1,5 @@
 -- What the loops keep, and what falls.
 use Prim.Native.Nat.{◌≤◌}
-use native.Mathlib.Omega.{arith}
 use Rattle.levels.proofs.out_of_order_from.Given as goal
 
 abbrev pub invariant-loop-x : goal.invariant-loop-x

@@ -1,7 +1,6 @@
 -- `levels::pointing` meets its contract. Assumes nothing.
-use Prim.Native.Nat.{◌-◌}
 use native.Mathlib.Omega.{arith}
-use Rattle.levels.specs.LevelLaws.{Pointing, pointing_none, pointing_more, pointing_done}
+use Rattle.levels.specs.LevelLaws.{pointing_none, pointing_more, pointing_done}
 use Rattle.levels.proofs.pointing.Goals as goal
 
 pub loop-i-init : goal.loop-i-init

@@ -1,7 +1,6 @@
 -- What the loops keep, and what falls.
 use Prim.Native.Nat.{◌-◌}
-use native.Mathlib.Omega.{arith}
-use Rattle.levels.specs.LevelLaws.{Pointing, pointing_none, pointing_more, pointing_done}
+use Rattle.levels.specs.LevelLaws.{Pointing}
 use Rattle.levels.proofs.pointing.Given as goal
 
 abbrev pub invariant-loop-i : goal.invariant-loop-i

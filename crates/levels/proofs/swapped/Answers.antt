@@ -1,9 +1,8 @@
 -- `levels::swapped` meets its contract. Assumes nothing.
-use Prim.Native.Nat.{◌+◌, ◌-◌}
+use Prim.Native.Nat.{◌+◌}
 use native.Mathlib.Omega.{arith}
-use Rattle.cells.specs.Cells.{most}
 use Rattle.cells.specs.Packing.{cells_lt}
-use Rattle.levels.specs.SwapLaws.{Swapping, swapping_none, swapping_more, swapping_done, exchanged_low}
+use Rattle.levels.specs.SwapLaws.{swapping_none, swapping_more, swapping_done, exchanged_low}
 use Rattle.levels.proofs.swapped.Goals as goal
 
 pub loop-i-init : goal.loop-i-init

@@ -1,9 +1,7 @@
 -- What the loops keep, and what falls.
-use Prim.Native.Nat.{◌+◌, ◌-◌}
-use native.Mathlib.Omega.{arith}
+use Prim.Native.Nat.{◌-◌}
 use Rattle.cells.specs.Cells.{most}
-use Rattle.cells.specs.Packing.{cells_lt}
-use Rattle.levels.specs.SwapLaws.{Swapping, swapping_none, swapping_more, swapping_done, exchanged_low}
+use Rattle.levels.specs.SwapLaws.{Swapping}
 use Rattle.levels.proofs.swapped.Given as goal
 
 abbrev pub invariant-loop-i : goal.invariant-loop-i

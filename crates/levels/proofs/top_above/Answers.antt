@@ -1,8 +1,5 @@
 -- `levels::top_above` meets its contract. Assumes nothing.
-use Prim.Native.Nat.{◌≤◌}
-use borrow.Author.Rules.{rules}
 use native.Mathlib.Omega.{arith}
-use Rattle.levels.specs.Levels.{Tops}
 use Rattle.levels.specs.LevelLaws.{tops_none, tops_more, tops_done}
 use Rattle.levels.proofs.top_above.Goals as goal
 

@@ -1,9 +1,6 @@
 -- What the loops keep, and what falls.
 use Prim.Native.Nat.{◌≤◌}
-use borrow.Author.Rules.{rules}
-use native.Mathlib.Omega.{arith}
 use Rattle.levels.specs.Levels.{Tops}
-use Rattle.levels.specs.LevelLaws.{tops_none, tops_more, tops_done}
 use Rattle.levels.proofs.top_above.Given as goal
 
 abbrev pub invariant-loop-y : goal.invariant-loop-y

@@ -1,5 +1,4 @@
 -- `lines::put_answer` meets its contract. Assumes nothing.
-use borrow.Author.Rules.{rules}
 use mathlib.Core.List.{[], ◌∷◌, ◌++◌}
 use Rattle.put.specs.Decimal.{numbered}
 use Rattle.lines.specs.Printed.{line_feed, answer_word, place_word, tried_word, first_line}

@@ -1,5 +1,4 @@
 -- `lines::put_cell` meets its contract. Assumes nothing.
-use borrow.Author.Rules.{rules}
 use mathlib.Core.List.{[], ◌∷◌}
 use Rattle.lines.specs.Printed.{space, spaced, printed_value}
 use Rattle.put.specs.PutsLaws.{puts_puts, room_first, room_behind}

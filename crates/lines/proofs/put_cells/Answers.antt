@@ -1,10 +1,9 @@
 -- `lines::put_cells` meets its contract. Assumes nothing.
 use mathlib.Core.Path.{◌≡◌, ap, ◌∙◌}
-use Prim.Native.Nat.{ℕ, ◌-◌, ◌≤◌}
+use Prim.Native.Nat.{ℕ}
 use native.Mathlib.Omega.{arith}
 use lib.ListN.{length, take}
 use lib.Seq.{take-length}
-use Rattle.put.specs.Puts.{Puts}
 use Rattle.lines.specs.Printed.{listed, printed_value}
 use Rattle.put.specs.PutsLaws.{puts_none, puts_long, puts_puts, puts_as, room_behind}
 use Rattle.lines.specs.PrintedLaws.{listed_none, listed_more, room_listed}

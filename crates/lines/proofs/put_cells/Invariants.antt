@@ -1,13 +1,8 @@
 -- What the loops keep, and what falls.
-use mathlib.Core.Path.{◌≡◌, ap, ◌∙◌}
-use Prim.Native.Nat.{ℕ, ◌-◌, ◌≤◌}
-use native.Mathlib.Omega.{arith}
+use Prim.Native.Nat.{◌-◌, ◌≤◌}
 use lib.ListN.{length, take}
-use lib.Seq.{take-length}
 use Rattle.put.specs.Puts.{Puts}
 use Rattle.lines.specs.Printed.{listed, printed_value}
-use Rattle.put.specs.PutsLaws.{puts_none, puts_long, puts_puts, puts_as, room_behind}
-use Rattle.lines.specs.PrintedLaws.{listed_none, listed_more, room_listed}
 use Rattle.lines.proofs.put_cells.Given as goal
 
 abbrev pub invariant-loop-i : goal.invariant-loop-i

@@ -1,5 +1,4 @@
 -- `lines::put_line` meets its contract. Assumes nothing.
-use borrow.Author.Rules.{rules}
 use mathlib.Core.List.{[], ◌∷◌, ◌++◌}
 use Rattle.lines.specs.Printed.{line_feed, listed, line, printed_value}
 use Rattle.put.specs.PutsLaws.{puts_puts, room_first, room_behind}

@@ -1,5 +1,4 @@
 -- `lines::put_lines` meets its contract. Assumes nothing.
-use borrow.Author.Rules.{rules}
 use native.Mathlib.Omega.{arith}
 use Rattle.lines.specs.Printed.{first_line, printed_model, printed}
 use Rattle.put.specs.PutsLaws.{puts_puts, puts_as, puts_at_front, room_first, room_behind}

@@ -1,5 +1,4 @@
 -- `lines::put_model` meets its contract. Assumes nothing.
-use borrow.Author.Rules.{rules}
 use Prim.Native.Nat.{◌+◌, ◌-◌}
 use lib.ListN.{take, drop}
 use Rattle.lines.specs.Printed.{stack_word, heap_word, line, printed_value}

@@ -1,5 +1,4 @@
 -- `lines::put_value` meets its contract. Assumes nothing.
-use borrow.Author.Rules.{rules}
 use native.Mathlib.Omega.{arith}
 use Rattle.put.specs.PutsLaws.{puts_as, room_as}
 use Rattle.lines.specs.PrintedLaws.{value_none, value_some}

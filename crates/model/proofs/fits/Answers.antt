@@ -1,5 +1,4 @@
 -- `model::fits` meets its contract. Assumes nothing.
-use borrow.Author.Rules.{rules}
 use Rattle.model.specs.Judging.{ready, core_fits}
 use Rattle.model.proofs.fits.Goals as goal
 

@@ -1,5 +1,4 @@
 -- `names::numbered` meets its contract. Assumes nothing.
-use borrow.Author.Rules.{rules}
 use native.Mathlib.Omega.{arith}
 use Rattle.names.specs.Names.{names}
 use Rattle.names.specs.NameLaws.{noted_known, noted_over, noted_new}

@@ -1,5 +1,4 @@
 -- `names::operand` meets its contract. Assumes nothing.
-use borrow.Author.Rules.{rules}
 use mathlib.Core.Path.{subst}
 use Prim.Native.Nat.{ℕ}
 use Rattle.terms.specs.declared.Found.TheVariants.{Term as Reads, Wrong}

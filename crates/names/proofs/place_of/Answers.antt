@@ -1,8 +1,6 @@
 -- `names::place_of` meets its contract. Assumes nothing.
-use borrow.Author.Rules.{rules}
-use Prim.Native.Nat.{◌-◌, ◌≤◌}
 use native.Mathlib.Omega.{arith}
-use Rattle.names.specs.NameLaws.{Passed, place_found, place_next, place_none}
+use Rattle.names.specs.NameLaws.{place_found, place_next, place_none}
 use Rattle.names.proofs.place_of.Goals as goal
 
 pub loop-i-init : goal.loop-i-init

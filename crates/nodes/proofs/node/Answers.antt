@@ -1,8 +1,6 @@
 -- `nodes::node` meets its contract. Assumes nothing.
-use borrow.Author.Rules.{rules}
-use mathlib.Core.Logic.{inl, inr, ⊎_elim}
+use mathlib.Core.Logic.{inl, inr}
 use native.Mathlib.Omega.{arith}
-use borrow.Author.Tests.{not-true, not-false}
 use Rattle.logic.specs.Checks.{Answers}
 use Rattle.logic.proofs.Reflect.{fails}
 use Rattle.nodes.proofs.node.Goals as goal

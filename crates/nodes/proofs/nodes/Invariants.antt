@@ -1,14 +1,7 @@
 -- What the loops keep, and what falls.
-use borrow.Author.Rules.{rules}
-use mathlib.Core.Path.{◌≡◌, refl, subst}
-use Prim.Native.Nat.{ℕ, suc, ◌-◌, ◌/◌, ◌≤◌}
-use native.Mathlib.Omega.{arith}
-use lib.ListN.{length}
+use Prim.Native.Nat.{◌-◌, ◌≤◌}
 use Rattle.logic.specs.Checks.{upto, Passes}
-use Rattle.logic.specs.CheckLaws.{Yes}
-use Rattle.logic.proofs.CheckLaws.{passes_none, passes_more, passes_of_yes, upto_refused, answers_passed}
 use Rattle.logic.specs.Book.{node_checks}
-use Rattle.logic.proofs.BookLaws.{node_refuses}
 use Rattle.nodes.proofs.nodes.Given as goal
 
 abbrev pub invariant-loop-left : goal.invariant-loop-left

@@ -1,5 +1,4 @@
 -- What the loops keep, and what falls.
-use borrow.Author.Rules.{rules}
 use Prim.Native.Nat.{◌-◌, ◌≤◌}
 use lib.ListN.{length}
 use Rattle.notation.proofs.copy.Given as goal

@@ -1,6 +1,5 @@
 -- `operands::is_operand` meets its contract. Assumes nothing.
 use native.Mathlib.Omega.{arith}
-use borrow.Author.Rules.{rules}
 use mathlib.Core.Path.{subst⁻¹}
 use Prim.Native.Nat.{ℕ}
 use lib.Dec.{ltb}

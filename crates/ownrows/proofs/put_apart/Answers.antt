@@ -1,5 +1,4 @@
 -- `ownrows::put_apart` meets its contract. Assumes nothing.
-use borrow.Author.Rules.{rules}
 use mathlib.Core.Path.{subst}
 use Rattle.logic.specs.declared.Profile.{Profile}
 use Rattle.rows.specs.Table.{apart_row_count}

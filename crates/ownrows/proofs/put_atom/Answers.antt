@@ -1,5 +1,4 @@
 -- `ownrows::put_atom` meets its contract. Assumes nothing.
-use borrow.Author.Rules.{rules}
 use native.Mathlib.Omega.{arith}
 use Rattle.rowbytes.specs.WrittenLaws.{row_after, space_less, space_after}
 use Rattle.ownrows.specs.OwnRowLaws.{space_pair, space_ls, same_rows, diff_rows, pts_rows, ls_rows}

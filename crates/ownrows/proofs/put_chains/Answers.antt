@@ -1,9 +1,8 @@
 -- `ownrows::put_chains` meets its contract. Assumes nothing.
 use borrow.Author.Rules.{rules}
 use mathlib.Core.Path.{◌≡◌, refl, ◌∙◌, subst}
-use Prim.Native.Nat.{ℕ, ◌+◌, ◌-◌, ◌≤◌}
+use Prim.Native.Nat.{ℕ, ◌+◌}
 use native.Mathlib.Omega.{arith}
-use lib.ListN.{length}
 use Rattle.rows.specs.Row.{bytes_of}
 use Rattle.rows.specs.Table.{chains}
 use Rattle.rowbytes.specs.Written.{Puts}

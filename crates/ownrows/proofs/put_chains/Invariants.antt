@@ -1,14 +1,10 @@
 -- What the loops keep, and what falls.
-use borrow.Author.Rules.{rules}
-use mathlib.Core.Path.{◌≡◌, refl, ◌∙◌, subst}
-use Prim.Native.Nat.{ℕ, ◌+◌, ◌-◌, ◌≤◌}
-use native.Mathlib.Omega.{arith}
+use mathlib.Core.Path.{◌≡◌}
+use Prim.Native.Nat.{◌+◌, ◌-◌, ◌≤◌}
 use lib.ListN.{length}
 use Rattle.rows.specs.Row.{bytes_of}
 use Rattle.rows.specs.Table.{chains}
 use Rattle.rowbytes.specs.Written.{Puts}
-use Rattle.rowbytes.specs.WrittenLaws.{row_after}
-use Rattle.ownrows.specs.OwnRowLaws.{chains_none, chains_more}
 use Rattle.ownrows.proofs.put_chains.Given as goal
 
 abbrev pub invariant-loop-k : goal.invariant-loop-k

@@ -1,5 +1,4 @@
 -- `ownrows::put_long` meets its contract. Assumes nothing.
-use borrow.Author.Rules.{rules}
 use Rattle.ownrows.specs.OwnRowLaws.{long_rows}
 use Rattle.ownrows.proofs.put_long.Goals as goal
 

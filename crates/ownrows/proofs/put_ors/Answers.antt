@@ -1,11 +1,10 @@
 -- `ownrows::put_ors` meets its contract. Assumes nothing.
 use borrow.Author.Rules.{rules}
 use mathlib.Core.Path.{◌≡◌, refl, ◌∙◌, ap, subst}
-use Prim.Native.Nat.{ℕ, ◌+◌, ◌-◌, ◌≤◌}
+use Prim.Native.Nat.{ℕ, ◌+◌}
 use native.Mathlib.Omega.{arith}
-use lib.ListN.{length}
 use Rattle.rows.specs.Row.{bytes_of}
-use Rattle.rows.specs.Table.{ors, so_far}
+use Rattle.rows.specs.Table.{ors}
 use Rattle.rowbytes.specs.Written.{Puts}
 use Rattle.rowbytes.specs.WrittenLaws.{row_after}
 use Rattle.ownrows.specs.OwnRowLaws.{ors_none, ors_more, so_far_start, so_far_next}

@@ -1,14 +1,10 @@
 -- What the loops keep, and what falls.
-use borrow.Author.Rules.{rules}
-use mathlib.Core.Path.{◌≡◌, refl, ◌∙◌, ap, subst}
-use Prim.Native.Nat.{ℕ, ◌+◌, ◌-◌, ◌≤◌}
-use native.Mathlib.Omega.{arith}
+use mathlib.Core.Path.{◌≡◌}
+use Prim.Native.Nat.{◌-◌, ◌≤◌}
 use lib.ListN.{length}
 use Rattle.rows.specs.Row.{bytes_of}
 use Rattle.rows.specs.Table.{ors, so_far}
 use Rattle.rowbytes.specs.Written.{Puts}
-use Rattle.rowbytes.specs.WrittenLaws.{row_after}
-use Rattle.ownrows.specs.OwnRowLaws.{ors_none, ors_more, so_far_start, so_far_next}
 use Rattle.ownrows.proofs.put_ors.Given as goal
 
 abbrev pub invariant-loop-k : goal.invariant-loop-k

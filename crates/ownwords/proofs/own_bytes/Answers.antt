@@ -1,5 +1,4 @@
 -- `ownwords::own_bytes` meets its contract. Assumes nothing.
-use borrow.Author.Rules.{rules}
 use native.Mathlib.Omega.{arith}
 use Rattle.ownwords.specs.OwnWordLaws.{own_join, own_atom}
 use Rattle.ownwords.proofs.own_bytes.Goals as goal

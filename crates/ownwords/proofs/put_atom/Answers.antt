@@ -1,5 +1,4 @@
 -- `ownwords::put_atom` meets its contract. Assumes nothing.
-use borrow.Author.Rules.{rules}
 use native.Mathlib.Omega.{arith}
 use Rattle.put.specs.PutsLaws.{room_behind, puts_puts}
 use Rattle.ownwords.specs.OwnWords.{between, behind, term}

@@ -1,5 +1,5 @@
 -- `ownwords::put_before` meets its contract. Assumes nothing.
-use mathlib.Core.Path.{◌≡◌, refl, sym, ap}
+use mathlib.Core.Path.{◌≡◌, sym, ap}
 use Rattle.put.specs.PutsLaws.{room_as, puts_as, puts_long}
 use Rattle.ownwords.specs.OwnWords.{before}
 use Rattle.ownwords.specs.OwnWordLaws.{last_is_ten}

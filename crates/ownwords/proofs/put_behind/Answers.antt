@@ -1,5 +1,5 @@
 -- `ownwords::put_behind` meets its contract. Assumes nothing.
-use mathlib.Core.Path.{refl, sym, ap}
+use mathlib.Core.Path.{sym, ap}
 use native.Mathlib.Omega.{arith}
 use Rattle.put.specs.PutsLaws.{room_as, puts_as, puts_long}
 use Rattle.ownwords.specs.OwnWords.{behind}

@@ -1,5 +1,4 @@
 -- `packing::item` meets its contract. Assumes nothing.
-use borrow.Author.Rules.{rules}
 use native.Mathlib.Omega.{arith}
 use Rattle.packing.specs.PackingLaws.{digit_is}
 use Rattle.packing.proofs.item.Goals as goal

@@ -1,7 +1,6 @@
 -- `packing::packed` meets its contract. Assumes nothing.
 use borrow.Author.Rules.{rules}
 use mathlib.Core.Path.{◌≡◌, ◌∙◌, ap}
-use Prim.Native.Nat.{◌≤◌}
 use native.Mathlib.Omega.{arith}
 use Rattle.packing.specs.Packing.{packed_from}
 use Rattle.packing.specs.PackingLaws.{packed_none, packed_more, packed_fits}

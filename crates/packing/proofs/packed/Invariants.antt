@@ -1,10 +1,7 @@
 -- What the loops keep, and what falls.
-use borrow.Author.Rules.{rules}
-use mathlib.Core.Path.{◌≡◌, ◌∙◌, ap}
+use mathlib.Core.Path.{◌≡◌}
 use Prim.Native.Nat.{◌≤◌}
-use native.Mathlib.Omega.{arith}
 use Rattle.packing.specs.Packing.{packed_from}
-use Rattle.packing.specs.PackingLaws.{packed_none, packed_more, packed_fits}
 use Rattle.packing.proofs.packed.Given as goal
 
 abbrev pub invariant-loop-i : goal.invariant-loop-i

@@ -1,11 +1,10 @@
 -- `packing::table_of` meets its contract. Assumes nothing.
 use borrow.Author.Rules.{rules}
-use Prim.Native.Nat.{◌-◌, ◌*◌, ◌≤◌}
+use Prim.Native.Nat.{◌*◌}
 use native.Mathlib.Omega.{arith}
-use lib.ListN.{length, length-set}
-use mathlib.Core.Path.{◌≡◌, refl, ◌∙◌}
+use lib.ListN.{length-set}
+use mathlib.Core.Path.{refl, ◌∙◌}
 use Rattle.logic.specs.Book.{most_nodes}
-use Rattle.packing.specs.Packing.{Copying}
 use Rattle.packing.specs.SameTable.{copying_none, copying_more, copying_same}
 use Rattle.packing.proofs.table_of.Goals as goal
 

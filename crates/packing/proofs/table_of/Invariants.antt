@@ -1,12 +1,9 @@
 -- What the loops keep, and what falls.
-use borrow.Author.Rules.{rules}
 use Prim.Native.Nat.{◌-◌, ◌*◌, ◌≤◌}
-use native.Mathlib.Omega.{arith}
-use lib.ListN.{length, length-set}
-use mathlib.Core.Path.{◌≡◌, refl, ◌∙◌}
+use lib.ListN.{length}
+use mathlib.Core.Path.{◌≡◌}
 use Rattle.logic.specs.Book.{most_nodes}
 use Rattle.packing.specs.Packing.{Copying}
-use Rattle.packing.specs.SameTable.{copying_none, copying_more, copying_same}
 use Rattle.packing.proofs.table_of.Given as goal
 
 abbrev pub invariant-loop-i : goal.invariant-loop-i

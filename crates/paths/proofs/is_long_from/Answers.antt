@@ -1,8 +1,7 @@
 -- `paths::is_long_from` meets its contract. Assumes nothing.
 use mathlib.Core.Path.{refl}
-use Prim.Native.Nat.{◌+◌, ◌-◌, ◌≤◌}
 use native.Mathlib.Omega.{arith}
-use Rattle.paths.specs.Along.{Walk, next_low, walk_start, walk_next, walk_end}
+use Rattle.paths.specs.Along.{next_low, walk_start, walk_next, walk_end}
 use Rattle.paths.proofs.is_long_from.Goals as goal
 
 pub overflow_add-d : goal.overflow_add-d

@@ -1,8 +1,6 @@
 -- What the loops keep, and what falls.
-use mathlib.Core.Path.{refl}
 use Prim.Native.Nat.{◌+◌, ◌-◌, ◌≤◌}
-use native.Mathlib.Omega.{arith}
-use Rattle.paths.specs.Along.{Walk, next_low, walk_start, walk_next, walk_end}
+use Rattle.paths.specs.Along.{Walk}
 use Rattle.paths.proofs.is_long_from.Given as goal
 
 abbrev pub invariant-loop-i : goal.invariant-loop-i

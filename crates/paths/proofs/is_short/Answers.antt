@@ -1,11 +1,10 @@
 -- `paths::is_short` meets its contract. Assumes nothing.
 use mathlib.Core.Path.{refl}
-use Prim.Native.Nat.{◌+◌, ◌-◌, ◌≤◌}
 use native.Mathlib.Omega.{arith}
 use Rattle.logic.proofs.Agree.{heap_more}
 use Rattle.logic.proofs.Reflect.{fails}
 use Rattle.logic.proofs.PathLaws.{path_le}
-use Rattle.paths.specs.Along.{NoneBelow, none_nil, none_above, one_long, all_none}
+use Rattle.paths.specs.Along.{none_nil, none_above, one_long, all_none}
 use Rattle.paths.specs.Counting.{few_short}
 use Rattle.paths.proofs.is_short.Goals as goal
 

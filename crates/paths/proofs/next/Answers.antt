@@ -1,5 +1,4 @@
 -- `paths::next` meets its contract. Assumes nothing.
-use borrow.Author.Rules.{rules}
 use Rattle.paths.specs.Along.{next_none, next_some}
 use Rattle.paths.proofs.next.Goals as goal
 

@@ -1,5 +1,4 @@
 -- `put::put` meets its contract. Assumes nothing.
-use borrow.Author.Rules.{rules}
 use Rattle.put.specs.PutsLaws.{puts_one}
 use Rattle.put.proofs.put.Goals as goal
 

@@ -1,5 +1,4 @@
 -- `put::put_number` meets its contract. Assumes nothing.
-use borrow.Author.Rules.{rules}
 use Rattle.put.specs.Decimal.{decimal, numbered}
 use Rattle.put.specs.PutsLaws.{puts_puts, room_first, room_behind}
 use Rattle.put.proofs.put_number.Goals as goal

@@ -1,10 +1,9 @@
 -- `put::put_word` meets its contract. Assumes nothing.
 use mathlib.Core.Path.{◌≡◌, ap, ◌∙◌}
-use Prim.Native.Nat.{ℕ, ◌-◌, ◌≤◌}
+use Prim.Native.Nat.{ℕ}
 use native.Mathlib.Omega.{arith}
 use lib.ListN.{length, take}
 use lib.Seq.{take-length}
-use Rattle.put.specs.Puts.{Puts}
 use Rattle.put.specs.PutsLaws.{puts_none, puts_long, puts_puts, puts_as, room_behind, word_more, room_word}
 use Rattle.put.proofs.put_word.Goals as goal
 

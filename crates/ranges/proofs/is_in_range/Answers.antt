@@ -1,5 +1,4 @@
 -- `ranges::is_in_range` meets its contract. Assumes nothing.
-use borrow.Author.Rules.{rules}
 use native.Mathlib.Omega.{arith}
 use Rattle.ranges.specs.RangeLaws.{is_location, is_cell_byte}
 use Rattle.ranges.proofs.is_in_range.Goals as goal

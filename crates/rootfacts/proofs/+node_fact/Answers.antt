@@ -1,7 +1,6 @@
 -- `rootfacts::node_fact` meets its contract: the node number falls at every call. Assumes nothing.
-use Prim.Native.Nat.{ℕ, ◌<◌}
+use Prim.Native.Nat.{◌<◌}
 use native.Mathlib.Omega.{arith}
-use borrow.Author.Rules.{rules}
 use Rattle.rootfacts.specs.NodeLaws.{operator_is, any_known, lower, readable_below, join_known, first_known}
 use Rattle.rootfacts.proofs.+node_fact.Goals as goal
 

@@ -1,7 +1,6 @@
 -- `rootfacts::atom_at` meets its contract. Assumes nothing.
 use mathlib.Core.Path.{◌∙◌, ap}
 use native.Mathlib.Omega.{arith}
-use borrow.Author.Rules.{rules}
 use Rattle.cells.specs.Cells.{cells}
 use Rattle.rootfacts.specs.NodeLaws.{operator_is, variables, locations, atom_known}
 use Rattle.rootfacts.proofs.atom_at.Goals as goal

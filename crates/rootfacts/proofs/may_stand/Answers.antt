@@ -1,5 +1,4 @@
 -- `rootfacts::may_stand` meets its contract. Assumes nothing.
-use borrow.Author.Rules.{rules}
 use Rattle.rootfacts.specs.RootLaws.{bit_is}
 use Rattle.rootfacts.proofs.may_stand.Goals as goal
 

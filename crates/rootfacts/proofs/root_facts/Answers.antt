@@ -1,13 +1,9 @@
 -- `rootfacts::root_facts` meets its contract. Assumes nothing.
-use mathlib.Core.Path.{◌≡◌, refl}
-use Prim.Native.Nat.{ℕ, suc, ◌-◌, ◌<◌, ◌≤◌}
+use mathlib.Core.Path.{refl}
 use native.Mathlib.Omega.{arith}
-use lib.ListN.{length, length-set}
+use lib.ListN.{length-set}
 use borrow.Author.Count.{below_none}
 use borrow.Author.Rules.{rules}
-use Rattle.logic.specs.Table.{tree}
-use Rattle.cells.specs.Cells.{cells}
-use Rattle.rootfacts.specs.RootFacts.{entries, EntryAt}
 use Rattle.rootfacts.specs.RootLaws.{stored_more, hopeless_facts}
 use Rattle.rootfacts.proofs.root_facts.Goals as goal
 

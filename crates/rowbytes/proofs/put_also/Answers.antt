@@ -1,5 +1,4 @@
 -- `rowbytes::put_also` meets its contract. Assumes nothing.
-use borrow.Author.Rules.{rules}
 use mathlib.Core.Path.{refl}
 use native.Mathlib.Omega.{arith}
 use Rattle.rowbytes.specs.WrittenLaws.{puts_puts, space_after}

@@ -1,5 +1,4 @@
 -- `rowbytes::put_not` meets its contract. Assumes nothing.
-use borrow.Author.Rules.{rules}
 use Rattle.rows.specs.Row.{fields_of}
 use Rattle.rows.specs.Row.Row.{NOT}
 use Rattle.rowbytes.specs.WrittenLaws.{one_row}

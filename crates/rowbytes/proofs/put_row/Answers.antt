@@ -1,5 +1,4 @@
 -- `rowbytes::put_row` meets its contract. Assumes nothing.
-use borrow.Author.Rules.{rules}
 use native.Mathlib.Omega.{arith}
 use lib.ListN.{length-set}
 use Rattle.rowbytes.specs.WrittenLaws.{ten_stores, moved_row}

@@ -1,7 +1,6 @@
 -- `rowjudge::node`, `rowjudge::join` and `rowjudge::both` meet their contracts: the node number falls at every call. Assumes nothing.
-use Prim.Native.Nat.{ℕ, ◌+◌, ◌*◌, ◌<◌, ◌≤◌}
+use Prim.Native.Nat.{◌≤◌}
 use native.Mathlib.Omega.{arith}
-use borrow.Author.Rules.{rules}
 use Rattle.logic.specs.Table.{op_of}
 use Rattle.logic.proofs.KnownLaws.{operator_some, variables, lower}
 use Rattle.rowjudge.specs.NodeLaws.{judged_atom, judged_conj, judged_disj, judged_but, judged_neg, judged_sep, judged_sept, judged_both, within_first, within_second, within_conj, within_disj, within_but, within_neg, within_sep, within_sept, within_join, judged_leaf, judged_join}

@@ -1,5 +1,4 @@
 -- `rowjudge::atom` meets its contract. Assumes nothing.
-use borrow.Author.Rules.{rules}
 use native.Mathlib.Omega.{arith}
 use Rattle.rowjudge.specs.SettingLaws.{on_low, location_low, location_is}
 use Rattle.rowjudge.specs.RowLaws.{is_same_atom, is_diff_atom, is_pts_atom, is_ls_atom}

@@ -1,5 +1,4 @@
 -- `rowjudge::byte_at` meets its contract. Assumes nothing.
-use borrow.Author.Rules.{rules}
 use native.Mathlib.Omega.{arith}
 use Rattle.rowjudge.proofs.byte_at.Goals as goal
 

@@ -1,5 +1,4 @@
 -- `rowjudge::heap_at` meets its contract. Assumes nothing.
-use borrow.Author.Rules.{rules}
 use native.Mathlib.Omega.{arith}
 use Rattle.rowjudge.specs.SettingLaws.{set_inside, values_low, heap_is}
 use Rattle.rowjudge.proofs.heap_at.Goals as goal

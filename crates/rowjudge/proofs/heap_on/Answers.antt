@@ -2,7 +2,6 @@
 use mathlib.Core.Path.{sym}
 use native.Mathlib.Omega.{arith}
 use Rattle.rowjudge.specs.RowLaws.{row_small, row_on, row_word, set_small}
-use borrow.Author.Rules.{rules}
 use Rattle.rowjudge.proofs.heap_on.Goals as goal
 
 pub slice_bounds-packed-end : goal.slice_bounds-packed-end

@@ -1,5 +1,4 @@
 -- `rowjudge::is_split` meets its contract. Assumes nothing.
-use borrow.Author.Rules.{rules}
 use Rattle.rowjudge.specs.RowLaws.{is_splits_at}
 use Rattle.rowjudge.proofs.is_split.Goals as goal
 

@@ -1,7 +1,6 @@
 -- `rowjudge::long_holds` meets its contract. Assumes nothing.
 use mathlib.Core.Path.{subst}
 use native.Mathlib.Omega.{arith}
-use borrow.Author.Rules.{rules}
 use Rattle.logic.specs.Heap.{Map}
 use Rattle.logic.specs.Paths.{NoLongPath}
 use Rattle.logic.specs.Reflect.{Is}

@@ -1,5 +1,4 @@
 -- `search::room` meets its contract. Assumes nothing.
-use borrow.Author.Rules.{rules}
 use mathlib.Core.Logic.{inl, inr}
 use native.Mathlib.Omega.{arith}
 use Rattle.logic.specs.Checks.{Answers}

@@ -1,5 +1,4 @@
 -- `search::search` meets its contract. Assumes nothing.
-use borrow.Author.Rules.{rules}
 use native.Mathlib.Omega.{arith}
 use Rattle.logic.proofs.OpenLaws.{read_given, opened}
 use Rattle.logic.proofs.SearchLaws.{searches_refused}

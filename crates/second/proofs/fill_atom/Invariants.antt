@@ -1,5 +1,4 @@
 -- What the loops keep, and what falls.
-use borrow.Author.Rules.{rules}
 use Prim.Native.Nat.{◌-◌, ◌≤◌}
 use Rattle.second.proofs.fill_atom.Given as goal
 

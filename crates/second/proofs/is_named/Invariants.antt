@@ -1,6 +1,5 @@
 -- What the loops keep, and what falls.
-use borrow.Author.Rules.{rules}
-use mathlib.Core.Path.{◌≡◌, refl}
+use mathlib.Core.Path.{◌≡◌}
 use Prim.Native.Nat.{◌-◌, ◌/◌, ◌≤◌}
 use lib.ListN.{length}
 use Rattle.second.proofs.is_named.Given as goal

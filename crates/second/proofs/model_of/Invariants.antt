@@ -1,5 +1,4 @@
 -- What the loops keep, and what falls.
-use borrow.Author.Rules.{rules}
 use Prim.Native.Nat.{◌-◌, ◌*◌, ◌≤◌}
 use Rattle.logic.specs.Book.{most}
 use Rattle.second.proofs.model_of.Given as goal

@@ -1,5 +1,4 @@
 -- `strays::is_marked` meets its contract. Assumes nothing.
-use borrow.Author.Rules.{rules}
 use Rattle.strays.specs.MarkLaws.{is_marked}
 use Rattle.strays.proofs.is_marked.Goals as goal
 

@@ -1,11 +1,6 @@
 -- What the loops keep, and what falls.
-use borrow.Author.Rules.{rules}
-use mathlib.Core.Path.{◌≡◌, subst}
-use Prim.Native.Nat.{ℕ, ◌-◌, ◌/◌, ◌≤◌}
-use native.Mathlib.Omega.{arith}
-use lib.ListN.{length}
+use Prim.Native.Nat.{◌-◌, ◌≤◌}
 use Rattle.strays.specs.Marks.{NamedBelow, Marks}
-use Rattle.strays.specs.MarkLaws.{marks_none, marks_more}
 use Rattle.strays.proofs.marks.Given as goal
 
 abbrev pub invariant-loop-k : goal.invariant-loop-k

@@ -1,5 +1,4 @@
 -- `sweep::fits` meets its contract. Assumes nothing.
-use borrow.Author.Rules.{rules}
 use Rattle.judge.specs.Fitting.{fits_short, fits_not}
 use Rattle.sweep.specs.StartLaws.{is_over, is_judged}
 use Rattle.sweep.proofs.fits.Goals as goal

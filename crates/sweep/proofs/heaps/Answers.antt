@@ -1,14 +1,10 @@
 -- `sweep::heaps` meets its contract. Assumes nothing.
-use borrow.Author.Rules.{rules}
 use mathlib.Core.Path.{◌∙◌, ap}
-use Prim.Native.Nat.{ℕ, ◌-◌}
+use Prim.Native.Nat.{ℕ}
 use native.Mathlib.Omega.{arith}
-use Rattle.logic.specs.Table.{tree}
-use Rattle.logic.specs.Search.{CandidateFits}
-use Rattle.judge.specs.Setting.{vars_of, locs_of, path_of, profile_of}
+use Rattle.judge.specs.Setting.{locs_of}
 use Rattle.skips.specs.Blocks.{weight, after}
 use Rattle.skips.proofs.BlockLaws.{after_above, weight_some}
-use Rattle.sweep.specs.Sweep.{Going}
 use Rattle.sweep.specs.SweepLaws.{going_start, given_found, given_nothing, going_past}
 use Rattle.sweep.specs.StackLaws.{heap_range, heap_fits, heap_over, number_small}
 use Rattle.sweep.specs.StartLaws.{low_le}

@@ -1,6 +1,4 @@
 -- `sweep::is_looking` meets its contract. Assumes nothing.
-use borrow.Author.Rules.{rules}
-use Prim.Native.Nat.{◌-◌, ◌≤◌}
 use native.Mathlib.Omega.{arith}
 use Rattle.sweep.proofs.is_looking.Goals as goal
 

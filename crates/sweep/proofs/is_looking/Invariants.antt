@@ -1,7 +1,5 @@
 -- What the loops keep, and what falls.
-use borrow.Author.Rules.{rules}
 use Prim.Native.Nat.{◌-◌, ◌≤◌}
-use native.Mathlib.Omega.{arith}
 use Rattle.sweep.proofs.is_looking.Given as goal
 
 abbrev pub invariant-loop-l : goal.invariant-loop-l

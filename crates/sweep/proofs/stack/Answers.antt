@@ -1,7 +1,5 @@
 -- `sweep::stack` meets its contract. Assumes nothing.
-use borrow.Author.Rules.{rules}
 use mathlib.Core.Path.{sym, subst, ◌∙◌}
-use Prim.Native.Nat.{ℕ}
 use borrow.Author.Tests.{eqb-true}
 use Rattle.logic.specs.declared.Profile.{Profile}
 use Rattle.logic.specs.Table.{tree}

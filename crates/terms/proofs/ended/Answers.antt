@@ -1,7 +1,5 @@
 -- `terms::ended` meets its contract. Assumes nothing.
-use borrow.Author.Rules.{rules}
 use mathlib.Core.Path.{sym, subst, ◌∙◌}
-use borrow.Author.Tests.{not-true, not-false}
 use Rattle.terms.specs.Terms.{EndsIs}
 use Rattle.terms.specs.TermLaws.{dot_wrong, dot_nil, word_wrong, open_wrong, name_ended}
 use Rattle.terms.proofs.ended.Goals as goal

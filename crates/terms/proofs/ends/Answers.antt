@@ -1,5 +1,4 @@
 -- `terms::ends` meets its contract. Assumes nothing.
-use borrow.Author.Rules.{rules}
 use Rattle.terms.specs.TermLaws.{ends_cut, ends_close, ends_else}
 use Rattle.terms.proofs.ends.Goals as goal
 

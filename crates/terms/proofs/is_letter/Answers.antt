@@ -1,5 +1,4 @@
 -- `terms::is_letter` meets its contract. Assumes nothing.
-use borrow.Author.Rules.{rules}
 use native.Mathlib.Omega.{arith}
 use Rattle.terms.specs.TermLaws.{letter_lower, letter_digit, letter_none}
 use Rattle.terms.proofs.is_letter.Goals as goal

@@ -1,17 +1,11 @@
 -- What the loops keep, and what falls.
-use borrow.Author.Rules.{rules}
-use mathlib.Core.Path.{◌≡◌, refl, sym, ap, ◌∙◌}
-use mathlib.Core.Bool.{true, false}
+use mathlib.Core.Path.{◌≡◌}
 use mathlib.Core.List.{List}
-use Prim.Native.Nat.{ℕ, ◌+◌, ◌*◌, ◌-◌, ◌≤◌, ◌<◌}
-use native.Mathlib.Omega.{arith}
-use lib.ListN.{length, get_or}
-use borrow.Author.Tests.{not-true, not-false}
+use Prim.Native.Nat.{◌+◌, ◌-◌, ◌≤◌, ◌<◌}
+use lib.ListN.{length}
 use Rattle.grammar.proofs.Steps.{onward}
-use Rattle.grammar.specs.Phrase.{letter}
 use Rattle.grammar.specs.Machine.{Frame, Spot, name}
 use Rattle.terms.specs.Letters.{letters_of}
-use Rattle.terms.specs.TermLaws.{letter_byte, name_cut, name_ninth, name_unviable, name_longer, length_longer}
 use Rattle.terms.proofs.letters.Given as goal
 
 abbrev pub invariant-loop-e : goal.invariant-loop-e

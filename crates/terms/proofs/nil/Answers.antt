@@ -1,7 +1,5 @@
 -- `terms::nil` meets its contract. Assumes nothing.
-use borrow.Author.Rules.{rules}
 use mathlib.Core.Path.{subst}
-use borrow.Author.Tests.{not-true, not-false}
 use Rattle.words.specs.Words.{SpelledIs}
 use Rattle.words.specs.declared.Next.TheVariants.{At, Bad}
 use Rattle.grammar.specs.Phrase.{bytes}

@@ -1,11 +1,9 @@
 -- `terms::term` meets its contract. Assumes nothing.
-use borrow.Author.Rules.{rules}
 use mathlib.Core.Path.{◌≡◌, refl, sym, subst, ◌∙◌}
 use mathlib.Core.Bool.{true, false}
 use Prim.Native.Nat.{ℕ, ◌+◌, ◌<◌}
 use native.Mathlib.Omega.{arith}
 use lib.ListN.{length, get_or}
-use borrow.Author.Tests.{not-true, not-false}
 use Rattle.grammar.specs.Phrase.{lower}
 use Rattle.terms.specs.declared.Found.TheVariants.{Term as Reads, Wrong}
 use Rattle.terms.specs.Terms.{LettersIs}

@@ -2,7 +2,7 @@
 use borrow.Author.Rules.{rules}
 use mathlib.Core.Path.{◌≡◌, ap, subst, subst⁻¹}
 use mathlib.Core.Logic.{inl}
-use Prim.Native.Nat.{ℕ, suc, ◌-◌, ◌/◌, ◌≤◌}
+use Prim.Native.Nat.{ℕ, suc, ◌-◌, ◌/◌}
 use native.Mathlib.Omega.{arith}
 use lib.ListN.{length}
 use Rattle.logic.specs.declared.Answer.{Answer}

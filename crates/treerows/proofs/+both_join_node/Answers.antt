@@ -1,6 +1,5 @@
 -- `treerows::node`, `treerows::join` and `treerows::both` meet their contracts: the node number falls at every call. Assumes nothing.
-use borrow.Author.Rules.{rules}
-use Prim.Native.Nat.{ℕ, ◌+◌, ◌*◌, ◌<◌, ◌≤◌}
+use Prim.Native.Nat.{◌+◌, ◌≤◌}
 use native.Mathlib.Omega.{arith}
 use Rattle.logic.specs.Table.{op_of, tree}
 use Rattle.rows.specs.Table.{apart_row_count}

@@ -1,9 +1,8 @@
 -- `uses::count` meets its contract. Assumes nothing.
 use borrow.Author.Rules.{rules}
 use mathlib.Core.Path.{◌≡◌, refl, ◌∙◌, ap}
-use Prim.Native.Nat.{ℕ, ◌-◌, ◌<◌, ◌≤◌}
+use Prim.Native.Nat.{ℕ, ◌<◌}
 use native.Mathlib.Omega.{arith}
-use lib.ListN.{length, get_or}
 use Rattle.logic.specs.Table.{uses}
 use Rattle.logic.proofs.TableLaws.{uses_more}
 use Rattle.logic.specs.Book.{most_nodes, nodes}

@@ -1,13 +1,9 @@
 -- What the loops keep, and what falls.
-use borrow.Author.Rules.{rules}
-use mathlib.Core.Path.{◌≡◌, refl, ◌∙◌, ap}
-use Prim.Native.Nat.{ℕ, ◌-◌, ◌<◌, ◌≤◌}
-use native.Mathlib.Omega.{arith}
+use mathlib.Core.Path.{◌≡◌}
+use Prim.Native.Nat.{ℕ, ◌-◌, ◌≤◌}
 use lib.ListN.{length, get_or}
 use Rattle.logic.specs.Table.{uses}
-use Rattle.logic.proofs.TableLaws.{uses_more}
-use Rattle.logic.specs.Book.{most_nodes, nodes}
-use Rattle.uses.specs.CountLaws.{uses_le, none_counted}
+use Rattle.logic.specs.Book.{most_nodes}
 use Rattle.uses.proofs.count.Given as goal
 
 abbrev pub invariant-loop-j : goal.invariant-loop-j

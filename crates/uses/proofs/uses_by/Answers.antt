@@ -1,7 +1,5 @@
 -- `uses::uses_by` meets its contract. Assumes nothing.
-use borrow.Author.Rules.{rules}
 use mathlib.Core.Path.{◌≡◌}
-use mathlib.Core.Logic.{⊎_elim}
 use Prim.Native.Nat.{◌*◌, ◌≤◌}
 use native.Mathlib.Omega.{arith}
 use Rattle.logic.specs.Table.{op_of, operand_of}

@@ -1,5 +1,4 @@
 -- `words::all_blank` meets its contract. Assumes nothing.
-use borrow.Author.Rules.{rules}
 use borrow.Author.Tests.{eqb-true}
 use Rattle.logic.proofs.Reflect.{false_true}
 use Rattle.words.proofs.all_blank.Goals as goal

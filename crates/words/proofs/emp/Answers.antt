@@ -1,5 +1,4 @@
 -- `words::emp` meets its contract. Assumes nothing.
-use borrow.Author.Rules.{rules}
 use Rattle.words.specs.WordLaws.{emp_is}
 use Rattle.words.proofs.emp.Goals as goal
 

@@ -2,11 +2,7 @@
 use borrow.Author.Rules.{rules}
 use mathlib.Core.Bool.{true}
 use mathlib.Core.Path.{◌≡◌}
-use Prim.Native.Nat.{◌-◌, ◌≤◌}
 use native.Mathlib.Omega.{arith}
-use lib.ListN.{length}
-use borrow.Author.Tests.{not-false}
-use Rattle.words.specs.Words.{OverBlanks}
 use Rattle.words.proofs.far.Goals as goal
 
 pub loop-e-init : goal.loop-e-init

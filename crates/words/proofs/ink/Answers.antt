@@ -1,5 +1,4 @@
 -- `words::ink` meets its contract. Assumes nothing.
-use borrow.Author.Rules.{rules}
 use mathlib.Core.Path.{sym, ◌∙◌}
 use native.Mathlib.Omega.{arith}
 use Rattle.words.proofs.ink.Goals as goal

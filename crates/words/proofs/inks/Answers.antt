@@ -1,7 +1,6 @@
 -- `words::inks` meets its contract. Assumes nothing.
-use borrow.Author.Rules.{rules}
 use mathlib.Core.Path.{◌≡◌, subst}
-use Prim.Native.Nat.{ℕ, ◌+◌, ◌-◌, ◌≤◌}
+use Prim.Native.Nat.{ℕ, ◌+◌}
 use native.Mathlib.Omega.{arith}
 use Rattle.grammar.specs.Grammar.{Blanks}
 use Rattle.words.specs.Words.{OverBlanks}

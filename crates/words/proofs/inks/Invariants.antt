@@ -1,11 +1,7 @@
 -- What the loops keep, and what falls.
-use borrow.Author.Rules.{rules}
-use mathlib.Core.Path.{◌≡◌, subst}
-use Prim.Native.Nat.{ℕ, ◌+◌, ◌-◌, ◌≤◌}
-use native.Mathlib.Omega.{arith}
-use Rattle.grammar.specs.Grammar.{Blanks}
+use mathlib.Core.Path.{◌≡◌}
+use Prim.Native.Nat.{◌+◌, ◌-◌, ◌≤◌}
 use Rattle.words.specs.Words.{OverBlanks}
-use Rattle.words.specs.WordLaws.{blank_first}
 use Rattle.words.proofs.inks.Given as goal
 
 abbrev pub invariant-loop-k : goal.invariant-loop-k

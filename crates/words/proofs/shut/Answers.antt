@@ -1,5 +1,4 @@
 -- `words::shut` meets its contract. Assumes nothing.
-use borrow.Author.Rules.{rules}
 use native.Mathlib.Omega.{arith}
 use Rattle.words.specs.WordLaws.{shut_misses, shut_is, no_byte}
 use Rattle.words.proofs.shut.Goals as goal

@@ -1,14 +1,10 @@
 -- `words::skip` meets its contract. Assumes nothing.
-use borrow.Author.Rules.{rules}
 use mathlib.Core.Bool.{true, false}
 use mathlib.Core.Path.{◌≡◌, sym, subst, ◌∙◌}
-use Prim.Native.Nat.{ℕ, ◌-◌, ◌≤◌}
+use Prim.Native.Nat.{ℕ}
 use native.Mathlib.Omega.{arith}
-use lib.ListN.{length}
-use borrow.Author.Tests.{not-true, not-false}
 use Rattle.grammar.specs.Grammar.{blank}
 use Rattle.grammar.specs.Grammar.Blanks.{no_blank}
-use Rattle.words.specs.Words.{OverBlanks}
 use Rattle.words.specs.WordLaws.{blank_first}
 use Rattle.words.proofs.skip.Goals as goal
 

@@ -2,10 +2,9 @@
 use borrow.Author.Rules.{rules}
 use mathlib.Core.Path.{◌≡◌, sym, subst, ◌∙◌}
 use mathlib.Core.List.{[]}
-use Prim.Native.Nat.{ℕ, ◌-◌, ◌≤◌}
+use Prim.Native.Nat.{ℕ}
 use native.Mathlib.Omega.{arith}
-use lib.ListN.{length, get_or, drop}
-use Rattle.words.specs.declared.Next.{Next}
+use lib.ListN.{get_or, drop}
 use Rattle.words.specs.declared.Next.TheVariants.{At, Bad}
 use Rattle.words.specs.Words.{spellings, SpelledIs}
 use Rattle.words.specs.WordLaws.{spellings_lettered, spelled_end, spelled_eight, spelled_miss, spelled_step, no_byte}

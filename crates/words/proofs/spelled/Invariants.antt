@@ -1,14 +1,9 @@
 -- What the loops keep, and what falls.
-use borrow.Author.Rules.{rules}
-use mathlib.Core.Path.{◌≡◌, sym, subst, ◌∙◌}
 use mathlib.Core.List.{[]}
-use Prim.Native.Nat.{ℕ, ◌-◌, ◌≤◌}
-use native.Mathlib.Omega.{arith}
+use Prim.Native.Nat.{◌-◌, ◌≤◌}
 use lib.ListN.{length, get_or, drop}
 use Rattle.words.specs.declared.Next.{Next}
-use Rattle.words.specs.declared.Next.TheVariants.{At, Bad}
 use Rattle.words.specs.Words.{spellings, SpelledIs}
-use Rattle.words.specs.WordLaws.{spellings_lettered, spelled_end, spelled_eight, spelled_miss, spelled_step, no_byte}
 use Rattle.words.proofs.spelled.Given as goal
 
 abbrev pub invariant-loop-j : goal.invariant-loop-j

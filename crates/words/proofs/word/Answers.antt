@@ -1,12 +1,10 @@
 -- `words::word` meets its contract. Assumes nothing.
-use borrow.Author.Rules.{rules}
 use mathlib.Core.Path.{◌≡◌, subst}
 use mathlib.Core.Bool.{true, false}
 use mathlib.Core.List.{[]}
 use Prim.Native.Nat.{◌+◌, ◌<◌}
 use native.Mathlib.Omega.{arith}
 use lib.ListN.{get_or, drop}
-use borrow.Author.Tests.{not-true, not-false}
 use Rattle.logic.proofs.Reflect.{fails}
 use Rattle.words.specs.declared.Next.TheVariants.{At, Bad}
 use Rattle.words.specs.Words.{spellings, Begins, SpelledIs}

@@ -1,7 +1,5 @@
 -- `writer::put_node` meets its contract: the node number falls at each call of itself. Assumes nothing.
-use borrow.Author.Rules.{rules}
 use mathlib.Core.Path.{refl}
-use Prim.Native.Nat.{ℕ, ◌<◌}
 use native.Mathlib.Omega.{arith}
 use Rattle.logic.specs.Table.{op_of, operand_of, tree}
 use Rattle.logic.proofs.KnownLaws.{operator_some, variables, lower}

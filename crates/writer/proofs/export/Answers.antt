@@ -1,5 +1,4 @@
 -- `writer::export` meets its contract. Assumes nothing.
-use borrow.Author.Rules.{rules}
 use native.Mathlib.Omega.{arith}
 use Rattle.logic.proofs.OpenLaws.{read_given, opened, vars_low, known}
 use Rattle.writer.specs.TextLaws.{read_refused, too_short, exported}

@@ -1,14 +1,9 @@
 -- What the loops keep, and what falls.
-use borrow.Author.Rules.{rules}
-use mathlib.Core.Path.{◌≡◌, refl, sym, ap, ◌∙◌, ap₂}
-use Prim.Native.Nat.{ℕ, ◌+◌, ◌-◌, ◌*◌, ◌/◌, ◌≤◌}
+use mathlib.Core.Path.{◌≡◌}
+use Prim.Native.Nat.{◌-◌, ◌*◌, ◌/◌, ◌≤◌}
 use lib.ListN.{length}
-use native.Mathlib.Omega.{arith}
 use Rattle.logic.specs.Weight.{sum, own_at}
-use Rattle.logic.proofs.Weight.{sum_start, sum_more}
-use Rattle.logic.proofs.KnownLaws.{operator_some, counted}
-use Rattle.ownwords.specs.OwnWords.{text, own_byte_count}
-use Rattle.ownwords.specs.OwnWordLaws.{bytes_add}
+use Rattle.ownwords.specs.OwnWords.{own_byte_count}
 use Rattle.writer.proofs.text_length.Given as goal
 
 abbrev pub invariant-loop-k : goal.invariant-loop-k

@@ -1,6 +1,5 @@
 -- `candidates::Candidate::at` meets its contract. Assumes nothing.
-use borrow.Author.Rules.{rules}
-use Prim.Native.Nat.{ℕ, ◌+◌, ◌/◌, ◌^◌}
+use Prim.Native.Nat.{ℕ, ◌+◌, ◌/◌}
 use mathlib.Core.Path.{refl, subst}
 use native.Mathlib.Nat.{one-le-pow}
 use native.Mathlib.Omega.{arith}

@@ -2,7 +2,6 @@
 use native.Mathlib.Omega.{arith}
 use Rattle.logic.proofs.CandidateLaws.{stack_in_base}
 use Rattle.candidates.specs.PassLaws.{pass_stack}
-use borrow.Author.Rules.{rules}
 use Rattle.candidates.proofs.Candidate.pass_stack.Goals as goal
 
 pub bump-requires : goal.bump-requires

@@ -1,5 +1,4 @@
 -- `candidates::Candidate::write` meets its contract. Assumes nothing.
-use borrow.Author.Rules.{rules}
 use Rattle.candidates.specs.Written.{model_written}
 use Rattle.candidates.proofs.Candidate.write.Goals as goal
 
