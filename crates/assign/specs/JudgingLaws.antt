@@ -22,7 +22,7 @@ use Rattle.logic.specs.Model.{Verdict, stack_in}
 use Rattle.cells.specs.Cells.{cells, Barred}
 use Rattle.rows.specs.Meaning.{Short, Satisfies}
 use Rattle.rows.specs.Table.{arrays_in, sets_in, arrays, sets, table, Encodable}
-use Rattle.rows.proofs.LastRow.{satisfies_condition}
+use Rattle.rows.proofs.TableHolds.{satisfies_condition}
 use Rattle.rows.specs.Bounds.{most_arrays, own_arrays, own_sets}
 use Rattle.rows.proofs.BoundsLaws.{arrays_add, sets_add}
 use Rattle.logic.specs.Weight.{sum}

@@ -7,12 +7,13 @@ use Rattle.std.proofs.Math.Logic.{inl, inr, ⊎_elim}
 use Rattle.std.proofs.Math.Decide.{dec_lt, dec_le, ℕ_discrete}
 use Rattle.logic.specs.declared.Profile.{Profile}
 use Rattle.logic.specs.declared.Profile.TheVariants.{Strong, Ordinary}
-use Rattle.logic.specs.Heap.{Map, Heap, Allocated, Locs, Named, MayMeet, Disjoint, Parts, Empty}
+use Rattle.logic.specs.Heap.{Map, Heap, Allocated, Locs, MayMeet, Disjoint, Parts, Empty}
 use Rattle.logic.specs.Holds.{Points}
-use Rattle.logic.specs.Tests.{andb, orb, pick, any, all, digit, in_part, heap_of, allocated, part, rest, union, named, may_meet, empty, is_value, in_locs, within, apart_at, apart, points, sep_at, sept_at}
+use Rattle.logic.specs.Tests.{andb, orb, pick, any, all, digit, in_part, heap_of, allocated, part, rest, union, may_meet, empty, is_value, in_locs, within, apart_at, apart, points, sep_at, sept_at}
 use Rattle.logic.specs.Digits.{num_of}
 use Rattle.logic.proofs.Digits.{num_of_lt, digit_num, digit_lt}
 use Rattle.logic.specs.Reflect.{Is}
+use Rattle.logic.proofs.NamedTest.{is_named}
 use Rattle.logic.proofs.Reflect.{is_iff, is_self, is_eq, is_and, is_or, is_not, is_all, is_any, decided, same_of_not}
 
 pub is_allocated : (h : Map) (ℓ : ℕ) → Is (allocated h ℓ) (Allocated h ℓ)
@@ -74,12 +75,6 @@ is_locs n h ℓ k =
     (is_any (λ j. eqb (h j) (suc ℓ)) (λ j. h j ≡ suc ℓ) (suc n) (λ i l. is_eq (h i) (suc ℓ))))
     (⊎_elim inl (λ q. inr (q.0, q.2)))
     (⊎_elim inl (λ q. inr (q.0, omega (arith, allocated_low n h q.0 k (λ z. absurd (omega (arith, z, q.1)))), q.1)))
-
-pub is_named : (v : ℕ) (s : Map) (ℓ : ℕ) → Is (named v s ℓ) (Named v s ℓ)
-unfolding named
-is_named v s ℓ =
-    is_iff (is_any (λ x. eqb (s x) ℓ) (λ x. s x ≡ ℓ) (suc v) (λ i l. is_eq (s i) ℓ))
-    (λ q. (q.0, le_of_suc-le-suc q.1, q.2)) (λ q. (q.0, omega (arith, q.1), q.2))
 
 pub is_may_meet : (π : Profile) (v : ℕ) (s : Map) (ℓ : ℕ) → Is (may_meet π v s ℓ) (MayMeet π v s ℓ)
 is_may_meet Strong v s ℓ = is_named v s ℓ

@@ -1,5 +1,6 @@
 pub mod Reflect
 pub mod Digits
+pub mod NamedTest
 pub mod Agree
 pub mod Without
 pub mod PathLaws

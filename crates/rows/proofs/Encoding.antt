@@ -11,7 +11,7 @@ use Rattle.logic.specs.Tests.{allocated}
 use Rattle.rows.specs.Assignment.{Assignment, ValuesInRange, on, model_heap}
 use Rattle.rows.specs.Meaning.{Satisfies}
 use Rattle.rows.specs.Table.{table, Encodable}
-use Rattle.rows.proofs.LastRow.{satisfies_condition}
+use Rattle.rows.proofs.TableHolds.{satisfies_condition}
 use Rattle.rows.proofs.PartSets.{not_allocated, values, values_low, values_alone, whole}
 use Rattle.rows.proofs.Sound.{sound}
 use Rattle.rows.proofs.Complete.{complete}

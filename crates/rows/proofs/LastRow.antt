@@ -7,20 +7,19 @@ use Rattle.std.proofs.Math.Logic.{inl, inr, ⊎_elim}
 use Prim.Native.Nat.{ℕ, zero, suc, zero-le, ◌+◌, ◌-◌, ◌<◌, ◌≤◌}
 use Rattle.std.proofs.Math.Nat.{le_of_suc-le-suc}
 use native.Mathlib.Omega.{arith}
-use Rattle.std.proofs.Math.ListN.{length, length-append}
+use Rattle.std.proofs.Math.ListN.{length}
 use Rattle.logic.specs.declared.Profile.{Profile}
 use Rattle.logic.specs.declared.Profile.TheVariants.{Strong, Ordinary}
 use Rattle.logic.specs.Formula.{Form}
-use Rattle.logic.specs.Formula.Form.{same, diff, pts, ls, conj, disj, but, neg, sep, sept}
-use Rattle.logic.specs.Paths.{NoLongPath}
+use Rattle.logic.specs.Formula.Form.{ls, conj, disj, but, neg}
 use Rattle.rows.specs.declared.Next.{Next}
-use Rattle.rows.specs.Assignment.{Assignment, model_heap}
+use Rattle.rows.specs.Assignment.{Assignment}
 use Rattle.rows.specs.Row.{Row}
-use Rattle.rows.specs.Row.Row.{EQ, NE, EMPTY, ONE, AT, CHAIN, AND, OR, NOT, SPLIT, APART, SAME, LONG}
-use Rattle.rows.specs.Meaning.{Means, HoldsBefore, RowHolds, Satisfies, Links, Splits, Apart}
-use Rattle.rows.specs.Table.{arrays_in, sets_in, two_sets, array_and_sets, after, chains, ors, so_far, pair_rows, also, also_apart, apart_row_count, sep_rows, rows_in, rows_of, start, table}
+use Rattle.rows.specs.Row.Row.{EQ, CHAIN, AND, OR, NOT, APART}
+use Rattle.rows.specs.Meaning.{Means, HoldsBefore, RowHolds, Links, Apart}
+use Rattle.rows.specs.Table.{arrays_in, sets_in, after, chains, ors, so_far, pair_rows, also, also_apart, apart_row_count, rows_in, rows_of}
 use Rattle.rows.specs.TableLaws.{Here}
-use Rattle.rows.proofs.TableLaws.{chains_long, chains_at, ors_long, ors_at, apart_long, rows_some, rows_long, trees_long, table_long, here_first, here_second, here_at}
+use Rattle.rows.proofs.TableLaws.{chains_long, chains_at, ors_long, ors_at, rows_some, rows_long, trees_long, here_first, here_second, here_at}
 use Rattle.rows.specs.Condition.{Condition}
 
 iff_and : {P Q R T : Type 0} → P ↔ Q → R ↔ T → (P × R) ↔ (Q × T)
@@ -53,7 +52,7 @@ module _ (π : Profile) (v n : ℕ) (ν : Assignment) (rs : List Row) where
   unfolding HoldsBefore
   row_is k x e = rw (eq-eqb k k refl) (ap (Means v ν (HoldsBefore v ν rs k)) e)
 
-  and_row : (k i j : ℕ) {P Q : Type 0} → get_or rs k (EQ 0 0) ≡ AND i j → i < k → j < k → RowHolds v ν rs i ↔ P → RowHolds v ν rs j ↔ Q → RowHolds v ν rs k ↔ (P × Q)
+  pub and_row : (k i j : ℕ) {P Q : Type 0} → get_or rs k (EQ 0 0) ≡ AND i j → i < k → j < k → RowHolds v ν rs i ↔ P → RowHolds v ν rs j ↔ Q → RowHolds v ν rs k ↔ (P × Q)
   unfolding Means
   and_row k i j e l m f g =
       iff_trans (iff_of (row_is k (AND i j) e ∙ ap₂ (λ (X Y : Type 0). X × Y) (row_kept k i l) (row_kept k j m))) (iff_and f g)
@@ -68,14 +67,14 @@ module _ (π : Profile) (v n : ℕ) (ν : Assignment) (rs : List Row) where
   not_row k i e l f = iff_trans (iff_of (row_is k (NOT i) e ∙ ap (λ (X : Type 0). ¬ X) (row_kept k i l))) (iff_not f)
 
   -- two rows and their AND
-  pair_row : (r : ℕ) (x y : Row) {P Q : Type 0} → Here rs r (pair_rows r x y) → Means v ν (HoldsBefore v ν rs r) x ↔ P → Means v ν (HoldsBefore v ν rs (r + 1)) y ↔ Q → RowHolds v ν rs (r + 3 - 1) ↔ (P × Q)
+  pub pair_row : (r : ℕ) (x y : Row) {P Q : Type 0} → Here rs r (pair_rows r x y) → Means v ν (HoldsBefore v ν rs r) x ↔ P → Means v ν (HoldsBefore v ν rs (r + 1)) y ↔ Q → RowHolds v ν rs (r + 3 - 1) ↔ (P × Q)
   pair_row r x y h f g =
       and_row (r + 3 - 1) r (r + 1) (here_at rs r (pair_rows r x y) h 2 (r + 3 - 1) (omega arith) (omega arith)) (omega arith) (omega arith)
       (iff_trans (iff_of (row_is r x (here_at rs r (pair_rows r x y) h 0 r (omega arith) (omega arith)))) f)
       (iff_trans (iff_of (row_is (r + 1) y (here_at rs r (pair_rows r x y) h 1 (r + 1) (omega arith) (omega arith)))) g)
 
   -- what is to be shown of a formula
-  Says : Form → Type 0
+  unfoldable pub Says : Form → Type 0
   Says F = (A S : ℕ) (s : Next) → Here rs s.row (rows_of π n F A S s) → RowHolds v ν rs ((after π n F s).row - 1) ↔ Condition π v n ν F A S s.array s.set
 
   -- the result after m ORs
@@ -116,7 +115,7 @@ module _ (π : Profile) (v n : ℕ) (ν : Assignment) (rs : List Row) where
         before zero = omega arith
         before (suc m) = omega arith
 
-  says_ls : (x y : ℕ) → Says (ls x y)
+  pub says_ls : (x y : ℕ) → Says (ls x y)
   unfolding Says rows_of rows_in Condition Upto
   says_ls x y A S s h =
       let xs = chains A S x y (n + 1) in
@@ -130,11 +129,11 @@ module _ (π : Profile) (v n : ℕ) (ν : Assignment) (rs : List Row) where
       end (suc m) = unfold so_far in omega arith
 
   -- two trees over array A
-  record Both (a b : Form) (A S T : ℕ) (s : Next) : Type 0 where
-    first : RowHolds v ν rs ((after π n a s).row - 1) ↔ Condition π v n ν a A S s.array s.set
-    second : RowHolds v ν rs ((after π n b (after π n a s)).row - 1) ↔ Condition π v n ν b A T (s.array + arrays_in a) (s.set + sets_in a)
+  pub record Both (a b : Form) (A S T : ℕ) (s : Next) : Type 0 where
+    pub first : RowHolds v ν rs ((after π n a s).row - 1) ↔ Condition π v n ν a A S s.array s.set
+    pub second : RowHolds v ν rs ((after π n b (after π n a s)).row - 1) ↔ Condition π v n ν b A T (s.array + arrays_in a) (s.set + sets_in a)
 
-  both : (a b : Form) → Says a → Says b → (A S T : ℕ) (s : Next) → Here rs s.row (rows_of π n a A S s ++ rows_of π n b A T (after π n a s)) → Both a b A S T s
+  pub both : (a b : Form) → Says a → Says b → (A S T : ℕ) (s : Next) → Here rs s.row (rows_of π n a A S s ++ rows_of π n b A T (after π n a s)) → Both a b A S T s
   unfolding Says
   both a b sa sb A S T s h =
       let xs = rows_of π n a A S s in
@@ -146,13 +145,13 @@ module _ (π : Profile) (v n : ℕ) (ν : Assignment) (rs : List Row) where
 
   -- where the last rows of the two trees stand, below a row behind them
   module _ (a b : Form) (A S T : ℕ) (s : Next) (k : ℕ) (l : (after π n b (after π n a s)).row ≤ k) where
-    first_below : (after π n a s).row - 1 < k
+    pub first_below : (after π n a s).row - 1 < k
     first_below = omega (arith, rows_some π n a)
 
     second_below : (after π n b (after π n a s)).row - 1 < k
     second_below = omega (arith, rows_some π n b)
 
-  says_conj : (a b : Form) → Says a → Says b → Says (conj a b)
+  pub says_conj : (a b : Form) → Says a → Says b → Says (conj a b)
   unfolding Says rows_of rows_in Condition
   says_conj a b sa sb A S s h =
       let t = after π n a s in
@@ -165,7 +164,7 @@ module _ (π : Profile) (v n : ℕ) (ν : Assignment) (rs : List Row) where
       and_row k (t.row - 1) (u.row - 1) (here_at rs u.row own ho 0 k (omega arith) (omega arith))
       (first_below a b A S S s k (omega arith)) (second_below a b A S S s k (omega arith)) q.first q.second
 
-  says_disj : (a b : Form) → Says a → Says b → Says (disj a b)
+  pub says_disj : (a b : Form) → Says a → Says b → Says (disj a b)
   unfolding Says rows_of rows_in Condition
   says_disj a b sa sb A S s h =
       let t = after π n a s in
@@ -178,7 +177,7 @@ module _ (π : Profile) (v n : ℕ) (ν : Assignment) (rs : List Row) where
       or_row k (t.row - 1) (u.row - 1) (here_at rs u.row own ho 0 k (omega arith) (omega arith))
       (first_below a b A S S s k (omega arith)) (second_below a b A S S s k (omega arith)) q.first q.second
 
-  says_but : (a b : Form) → Says a → Says b → Says (but a b)
+  pub says_but : (a b : Form) → Says a → Says b → Says (but a b)
   unfolding Says rows_of rows_in Condition
   says_but a b sa sb A S s h =
       let t = after π n a s in
@@ -192,7 +191,7 @@ module _ (π : Profile) (v n : ℕ) (ν : Assignment) (rs : List Row) where
       and_row k (t.row - 1) u.row (here_at rs u.row own ho 1 k (omega arith) (omega arith))
       (first_below a b A S S s k (omega arith)) (omega arith) q.first no
 
-  says_neg : (a : Form) → Says a → Says (neg a)
+  pub says_neg : (a : Form) → Says a → Says (neg a)
   unfolding Says rows_of rows_in Condition
   says_neg a sa A S s h =
       let t = after π n a s in
@@ -203,94 +202,17 @@ module _ (π : Profile) (v n : ℕ) (ν : Assignment) (rs : List Row) where
       not_row k (t.row - 1) (here_at rs t.row own ho 0 k (omega arith) (omega arith)) (omega (arith, rows_some π n a)) (sa A S s (here_first rs s.row xs own h))
 
   -- a row by another name of its number
-  row_at : (j k : ℕ) {P : Type 0} → j ≡ k → RowHolds v ν rs j ↔ P → RowHolds v ν rs k ↔ P
+  pub row_at : (j k : ℕ) {P : Type 0} → j ≡ k → RowHolds v ν rs j ↔ P → RowHolds v ν rs k ↔ P
   row_at j k e f = rw (← e) f
 
   -- the row after the result so far, and their AND
-  also_row : (r : ℕ) (x : Row) {P Q : Type 0} → Here rs (r + 1) (also r x) → RowHolds v ν rs r ↔ P → Means v ν (HoldsBefore v ν rs (r + 1)) x ↔ Q → RowHolds v ν rs (r + 2) ↔ (P × Q)
+  pub also_row : (r : ℕ) (x : Row) {P Q : Type 0} → Here rs (r + 1) (also r x) → RowHolds v ν rs r ↔ P → Means v ν (HoldsBefore v ν rs (r + 1)) x ↔ Q → RowHolds v ν rs (r + 2) ↔ (P × Q)
   also_row r x h f g =
       and_row (r + 2) r (r + 1) (here_at rs (r + 1) (also r x) h 1 (r + 2) (omega arith) (omega arith)) (omega arith) (omega arith) f
       (iff_trans (iff_of (row_is (r + 1) x (here_at rs (r + 1) (also r x) h 0 (r + 1) (omega arith) (omega arith)))) g)
 
   -- APART, where the profile asks it
-  apart_row : (ρ : Profile) (r A S T : ℕ) {P : Type 0} → Here rs (r + 1) (also_apart ρ r (APART A S T)) → RowHolds v ν rs r ↔ P → RowHolds v ν rs (r + apart_row_count ρ) ↔ (P × Apart ρ v ν.stack (ν.array A) (ν.set S) (ν.set T))
+  pub apart_row : (ρ : Profile) (r A S T : ℕ) {P : Type 0} → Here rs (r + 1) (also_apart ρ r (APART A S T)) → RowHolds v ν rs r ↔ P → RowHolds v ν rs (r + apart_row_count ρ) ↔ (P × Apart ρ v ν.stack (ν.array A) (ν.set S) (ν.set T))
   unfolding Means
   apart_row Strong r A S T h f = also_row r (APART A S T) h f (λ q. q, λ q. q)
   apart_row Ordinary r A S T h f = row_at r (r + 0) (omega arith) (iff_trans f (λ q. (q, λ ℓ x y. tt), λ q. q.0))
-
-  -- the children, SPLIT, and APART where the profile asks it: row m is the AND of the children
-  split_rows : (a b : Form) (A S T : ℕ) (s : Next) (x y z B w u m : ℕ) → Both a b A S T s → m ≡ (after π n b (after π n a s)).row
-      → Here rs m ((AND ((after π n a s).row - 1) (m - 1) ∷ also m (SPLIT x y z)) ++ also_apart π (m + 2) (APART B w u))
-      → RowHolds v ν rs (m + 2 + apart_row_count π) ↔ (((Condition π v n ν a A S s.array s.set × Condition π v n ν b A T (s.array + arrays_in a) (s.set + sets_in a)) × Splits (ν.set x) (ν.set y) (ν.set z)) × Apart π v ν.stack (ν.array B) (ν.set w) (ν.set u))
-  unfolding Means
-  split_rows a b A S T s x y z B w u m q e h =
-      let t = after π n a s in
-      let own = AND (t.row - 1) (m - 1) ∷ also m (SPLIT x y z) in
-      let ho = here_first rs m own (also_apart π (m + 2) (APART B w u)) h in
-      let trees = and_row m (t.row - 1) (m - 1) (here_at rs m own ho 0 m (omega arith) (omega arith))
-      (first_below a b A S T s m (omega arith)) (omega (arith, rows_some π n b)) q.first (subst (λ (k : ℕ). RowHolds v ν rs (k - 1) ↔ Condition π v n ν b A T (s.array + arrays_in a) (s.set + sets_in a)) (sym e) q.second) in
-      let hs = here_second rs m (AND (t.row - 1) (m - 1) ∷ []) (also m (SPLIT x y z)) (m + 1) ho refl in
-      let ha = here_second rs m own (also_apart π (m + 2) (APART B w u)) (m + 2 + 1) h (omega arith) in
-      apart_row π (m + 2) B w u ha (also_row m (SPLIT x y z) hs trees (λ q. q, λ q. q))
-
-  says_sep : (a b : Form) → Says a → Says b → Says (sep a b)
-  unfolding Says rows_of rows_in Condition
-  says_sep a b sa sb A S s h =
-      let s₁ = two_sets s in
-      let t = after π n a s₁ in
-      let m = (after π n b t).row in
-      let xs = rows_of π n a A s.set s₁ ++ rows_of π n b A (s.set + 1) t in
-      let own = sep_rows π A S s.set (s.set + 1) t.row m in
-      let q = both a b sa sb A s.set (s.set + 1) s₁ (here_first rs s.row xs own h) in
-      let ho = here_second rs s.row xs own m h (omega (arith, trees_long π n a b A s.set (s.set + 1) s₁)) in
-      let e : m + 2 + apart_row_count π ≡ s.row + (rows_in π n a + rows_in π n b + (3 + apart_row_count π)) - 1 = omega arith in
-      row_at (m + 2 + apart_row_count π) _ e (split_rows a b A s.set (s.set + 1) s₁ S s.set (s.set + 1) A s.set (s.set + 1) m q refl ho)
-
-  says_sept : (a b : Form) → Says a → Says b → Says (sept a b)
-  unfolding Says rows_of rows_in Condition Means
-  says_sept a b sa sb A S s h =
-      let s₁ = array_and_sets s in
-      let B = s.array in
-      let t = after π n a s₁ in
-      let m = (after π n b t).row in
-      let xs = rows_of π n a B s.set s₁ ++ rows_of π n b B (s.set + 1) t in
-      let x = SPLIT (s.set + 1) s.set S in
-      let y = APART B s.set S in
-      let front = (AND (t.row - 1) (m - 1) ∷ also m x) ++ also_apart π (m + 2) y in
-      let last = also (m + 2 + apart_row_count π) (SAME A B S) in
-      let q = both a b sa sb B s.set (s.set + 1) s₁ (here_first rs s.row xs (front ++ last) h) in
-      let ho = here_second rs s.row xs (front ++ last) m h (omega (arith, trees_long π n a b B s.set (s.set + 1) s₁)) in
-      let long : length front ≡ 3 + apart_row_count π = omega (arith, length-append (AND (t.row - 1) (m - 1) ∷ also m x) (also_apart π (m + 2) y), apart_long π (m + 2) y) in
-      let e : m + 2 + apart_row_count π + 2 ≡ s.row + (rows_in π n a + rows_in π n b + (5 + apart_row_count π)) - 1 = omega arith in
-      row_at (m + 2 + apart_row_count π + 2) _ e
-      (also_row (m + 2 + apart_row_count π) (SAME A B S) (here_second rs m front last (m + 2 + apart_row_count π + 1) ho (omega arith))
-      (split_rows a b B s.set (s.set + 1) s₁ (s.set + 1) s.set S B s.set S m q refl (here_first rs m front last ho)) (λ q. q, λ q. q))
-
-  -- the last row of each formula's rows, wherever they stand in the table
-  says : (F : Form) → Says F
-  unfolding Says rows_of rows_in Condition Means
-  says (same x y) A S s h = pair_row s.row (EQ x y) (EMPTY S) h (λ q. q, λ q. q) (λ q. q, λ q. q)
-  says (diff x y) A S s h = pair_row s.row (NE x y) (EMPTY S) h (λ q. q, λ q. q) (λ q. q, λ q. q)
-  says (pts x y) A S s h = pair_row s.row (ONE S x) (AT A x y) h (λ q. q, λ q. q) (λ q. q, λ q. q)
-  says (ls x y) A S s h = says_ls x y A S s h
-  says (conj a b) A S s h = says_conj a b (says a) (says b) A S s h
-  says (disj a b) A S s h = says_disj a b (says a) (says b) A S s h
-  says (but a b) A S s h = says_but a b (says a) (says b) A S s h
-  says (neg a) A S s h = says_neg a (says a) A S s h
-  says (sep a b) A S s h = says_sep a b (says a) (says b) A S s h
-  says (sept a b) A S s h = says_sept a b (says a) (says b) A S s h
-
--- "It satisfies the table when the last row holds.": the formula's condition, and LONG
-pub satisfies_condition : (π : Profile) (v n p : ℕ) (ν : Assignment) (F : Form) → Satisfies v ν (table π n p F) ↔ (Condition π v n ν F 0 0 1 1 × NoLongPath p (model_heap ν))
-unfolding Says Means
-satisfies_condition π v n p ν F =
-    let rs = table π n p F in
-    let r = rows_in π n F - 1 in
-    let xs = rows_of π n F 0 0 start in
-    let x = LONG 0 0 p in
-    let last = also r x in
-    let h : Here rs 0 (xs ++ last) = λ i l. ap (λ (k : ℕ). get_or rs k (EQ 0 0)) (omega arith) in
-    let e : r + 2 ≡ length rs - 1 = omega (arith, table_long π n p F, rows_some π n F) in
-    subst (λ (k : ℕ). RowHolds v ν rs k ↔ (Condition π v n ν F 0 0 1 1 × NoLongPath p (model_heap ν))) e
-    (also_row π v n ν rs r x (here_second rs 0 xs last (r + 1) h (omega (arith, rows_long π n F 0 0 start, rows_some π n F)))
-    (row_at π v n ν rs ((after π n F start).row - 1) r (omega arith) (says π v n ν rs F 0 0 start (here_first rs 0 xs last h))) (λ q. q, λ q. q))

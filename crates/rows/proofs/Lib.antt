@@ -1,6 +1,9 @@
 pub mod TableLaws
 pub mod LastRow
+pub mod SplitRows
+pub mod TableHolds
 pub mod OnSet
+pub mod OnSetLaws
 pub mod Sound
 pub mod Symbols
 pub mod PartSets

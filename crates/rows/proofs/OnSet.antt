@@ -2,14 +2,12 @@
 use Rattle.std.specs.Prelude.{◌≡◌, refl, Bool, true, false, ◌⊎◌, ◌↔◌, ℕ, suc, ◌≤◌}
 use Rattle.std.proofs.Common.{sym, subst, ◌∙◌, ap, inl, inr, ⊎_elim, zero-le, suc-le-suc, arith}
 use Rattle.std.proofs.Math.Path.{fun_ext}
-use Rattle.logic.specs.declared.Profile.{Profile}
-use Rattle.logic.specs.Heap.{Map, Heap, Allocated, Locs, Disjoint, Parts, Empty}
-use Rattle.logic.specs.Holds.{Points, Chain, Segment}
+use Rattle.logic.specs.Heap.{Map, Heap, Allocated, Locs, Parts, Empty}
+use Rattle.logic.specs.Holds.{Points, Chain}
 use Rattle.logic.specs.Tests.{pick}
 use Rattle.logic.proofs.Reflect.{false_true}
-use Rattle.logic.proofs.Chains.{is_chain, is_segment}
 use Rattle.rows.specs.Assignment.{Set, Member, Assignment, ValuesInRange, on}
-use Rattle.rows.specs.Meaning.{NoMember, Just, Holding, Links, Splits, WithValues, Apart, Same}
+use Rattle.rows.specs.Meaning.{NoMember, Just, Holding, Links, Splits, WithValues, Same}
 
 -- no member of a set where the test fails
 not_member : {P : Type 0} (S : Set) (ℓ : ℕ) → S ℓ ≡ false → Member S ℓ → P
@@ -94,15 +92,7 @@ module _ (A : Map) (S : Set) (nil : S 0 ≡ false) where
       not_nil = λ i l e. not_member S 0 nil (subst (Member S) e (value_of A S (q.at i) (q.at (suc i)) (q.link i l)).0);
     },
   )
-
   -- "x and y the same and h empty; or a chain of" links
-  pub segment_on : (n a b : ℕ) → Heap n (on A S) → ((k : ℕ) × (k ≤ n) × Links A S a b k) ↔ Segment a b (on A S)
-  segment_on n a b h =
-      let c = is_chain n n a b (on A S) h in
-      let g = is_segment n a b (on A S) h in (
-        λ q. g.to (c.from (q.0, q.1, (chain_on a b q.0).0 q.2)),
-        λ q. let y = c.to (g.from q) in (y.0, y.1, (chain_on a b y.0).1 y.2),
-      )
 
 -- ---- SPLIT, APART and SAME
 
@@ -122,16 +112,6 @@ with_values A S ℓ = (
   ⊎_elim (λ a. inl (member_of A S ℓ a)) (λ y. let w = value_of A S y.0 ℓ y.1 in inr (y.0, w.0, w.1)),
   ⊎_elim (λ m. inl (allocated_of A S ℓ m)) (λ y. inr (y.0, on_member A S y.0 y.1 ∙ ap suc y.2)),
 )
-
-pub apart_disjoint : (π : Profile) (v : ℕ) (s A : Map) (S1 S2 : Set) → ((ℓ : ℕ) → ¬ (Member S1 ℓ × Member S2 ℓ)) → Apart π v s A S1 S2 → Disjoint π v s (on A S1) (on A S2)
-apart_disjoint π v s A S1 S2 alone' q =
-    record {
-      alone = λ ℓ y. alone' ℓ (member_of A S1 ℓ y.0, member_of A S2 ℓ y.1);
-      meet = λ ℓ x y. q ℓ ((with_values A S1 ℓ).0 x) ((with_values A S2 ℓ).0 y);
-    }
-
-pub disjoint_apart : (π : Profile) (v : ℕ) (s A : Map) (S1 S2 : Set) → Disjoint π v s (on A S1) (on A S2) → Apart π v s A S1 S2
-disjoint_apart π v s A S1 S2 q ℓ x y = q.meet ℓ ((with_values A S1 ℓ).1 x) ((with_values A S2 ℓ).1 y)
 
 pub same_on : (A B : Map) (S : Set) → Same A B S → on A S ≡ on B S
 same_on A B S q = fun_ext λ ℓ. go ℓ (S ℓ) refl

@@ -12,7 +12,8 @@ use Rattle.logic.specs.Tests.{allocated}
 use Rattle.logic.proofs.Agree.{is_allocated, union_heap, union_is}
 use Rattle.rows.specs.Assignment.{Set, on}
 use Rattle.rows.specs.Meaning.{Splits, Apart, Same}
-use Rattle.rows.proofs.OnSet.{on_member, on_other, member_of, allocated_of, disjoint_apart, same_on}
+use Rattle.rows.proofs.OnSet.{on_member, on_other, member_of, allocated_of, same_on}
+use Rattle.rows.proofs.OnSetLaws.{disjoint_apart}
 use Rattle.rows.specs.PartSets.{Domain}
 
 pub domain_on : (A : Map) (S : Set) → Domain S (on A S)

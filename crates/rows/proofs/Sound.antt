@@ -11,7 +11,8 @@ use Rattle.logic.specs.Holds.{Holds}
 use Rattle.rows.specs.Assignment.{Assignment, ValuesInRange, on}
 use Rattle.rows.specs.Table.{arrays_in, sets_in, Flat, Encodable}
 use Rattle.rows.specs.Condition.{Condition}
-use Rattle.rows.proofs.OnSet.{on_heap, empty_on, points_on, segment_on, splits_parts, apart_disjoint, same_on}
+use Rattle.rows.proofs.OnSet.{on_heap, empty_on, points_on, splits_parts, same_on}
+use Rattle.rows.proofs.OnSetLaws.{segment_on, apart_disjoint}
 
 module _ (π : Profile) (v n : ℕ) (ν : Assignment) (k : ValuesInRange v n ν) where
   -- the truth of a formula on array A and set S

@@ -17,7 +17,7 @@ use Rattle.logic.specs.Model.{stack_in, heap_in, digit_of, model_checks, judge_c
 use Rattle.logic.proofs.ModelLaws.{model_stack, model_heap_is, verdict_zero, model_refuses}
 use Rattle.rows.specs.Assignment.{on, model_heap}
 use Rattle.rows.specs.Table.{arrays, sets, Encodable}
-use Rattle.rows.proofs.LastRow.{satisfies_condition}
+use Rattle.rows.proofs.TableHolds.{satisfies_condition}
 use Rattle.rows.proofs.Symbols.{condition_kept}
 use Rattle.rows.proofs.Encoding.{assignment_fits, fits_assignment}
 use Rattle.rows.specs.Assigned.{assigned, assigned_in, value_checks, SatisfiesBook, assign_rest, assign_checks, Assigns}
