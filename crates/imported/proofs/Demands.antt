@@ -22,8 +22,8 @@ use Rattle.logic.proofs.SearchLaws.{searches_outcome}
 use Rattle.laws.specs.Negations.{NoSeptraction, NoneUnderNegation}
 use Rattle.laws.proofs.SameAnswers.{verdict_same, answers_more, outcome_same}
 use Rattle.laws.specs.NeverNone.{NeverNone}
-use Rattle.laws.proofs.LongerPaths.{found_never_none_longer}
-use Rattle.laws.proofs.MoreLocations.{found_never_none}
+use Rattle.laws.proofs.LongerBooks.{found_never_none_longer}
+use Rattle.laws.proofs.WiderBooks.{found_never_none}
 use Rattle.grammar.specs.Phrase.{Term, Phrase, emp, join, deny, relate}
 use Rattle.grammar.specs.Phrase.Join.{and_word, or_word, sep_word, wand_word}
 use Rattle.grammar.specs.Phrase.Atom.{equal_word, distinct_word, pto_word, ls_word}

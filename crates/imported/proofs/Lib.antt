@@ -2,3 +2,4 @@ pub mod NamedLaws
 pub mod ImportedLaws
 pub mod Demands
 pub mod TextProfiles
+pub mod TextsAlike

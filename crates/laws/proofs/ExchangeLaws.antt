@@ -1,16 +1,11 @@
--- The exchange of two locations is a renumbering, so a candidate fits exactly if the one with the two exchanged does. Assumes
--- nothing.
-use Rattle.std.specs.Prelude.{◌≡◌, ◌↔◌, ℕ, ◌≤◌}
+-- The exchange of two locations is a renumbering. Assumes nothing.
+use Rattle.std.specs.Prelude.{◌≡◌, ℕ, ◌≤◌}
 use Rattle.std.proofs.Math.Path.{sym}
 use Rattle.std.proofs.Common.{◌∙◌, ap, arith}
 use Rattle.std.proofs.Math.Decide.{ℕ_discrete}
 use borrow.Author.Tests.{eq-eqb, ne_eqb}
-use Rattle.logic.specs.declared.Profile.{Profile}
-use Rattle.logic.specs.Formula.{Form}
-use Rattle.logic.specs.Search.{CandidateFits}
 use Rattle.laws.specs.Renumbering.{Renumbering}
-use Rattle.laws.proofs.RenumberedAnswers.{candidate_renumbered}
-use Rattle.laws.specs.Exchange.{exchange, exchanged_candidate}
+use Rattle.laws.specs.Exchange.{exchange}
 
 module _ (a b : ℕ) where
   pub exchange_first : (ℓ : ℕ) → ℓ ≡ a → exchange a b ℓ ≡ b
@@ -55,7 +50,3 @@ module _ (a b : ℕ) where
           low = exchange_low n ma mb;
           low_back = exchange_low n ma mb;
         }
-
-    -- candidate c fits exactly if the candidate with a and b exchanged does
-    pub swap_fits : (π : Profile) (v p : ℕ) (F : Form) (c : ℕ) → CandidateFits π v n p F c ↔ CandidateFits π v n p F (exchanged_candidate v n a b c)
-    swap_fits π v p F c = candidate_renumbered v n (exchange a b) (exchange a b) exchange_renumbering c π p F

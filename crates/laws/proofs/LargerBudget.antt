@@ -5,7 +5,7 @@ use Rattle.logic.specs.declared.Profile.{Profile}
 use Rattle.logic.specs.declared.Answer.{Answer}
 use Rattle.logic.specs.Numbers.{yes_number, no_number, spent_number}
 use Rattle.logic.specs.Search.{FitsAt, total_of, Outcome, found, none, spent, Searches}
-use Rattle.logic.proofs.SearchLaws.{searches_single, outcome_answers}
+use Rattle.logic.proofs.SearchLaws.{outcome_answers}
 use Rattle.logic.specs.RefusalLaws.{Answered}
 use Rattle.logic.proofs.RefusalLaws.{searches_answered}
 use Rattle.laws.specs.LargerBudget.{Says}
@@ -29,7 +29,3 @@ module _ (π : Profile) (s : List ℕ) (b b' : ℕ) (o : List ℕ) (a : Answer) 
     where
       known : Answered π s b o a
       known = searches_answered π s b o a o' q (⊎_elim (λ (y : a.number ≡ yes_number). omega arith) (λ (y : a.number ≡ no_number). omega arith) w)
-
-  -- and nothing else is allowed
-  pub larger_budget_only : (c : Answer) (x : List ℕ) → Searches π s b' o c x → (c ≡ a) × (x ≡ o')
-  larger_budget_only c x r = searches_single π s b' o c a x o' r larger_budget

@@ -1,7 +1,7 @@
 -- A renumbered model gets the judge's answer for the model, and a renumbered candidate fits exactly if the candidate does.
 -- Assumes nothing.
 use Rattle.std.specs.Prelude.{◌≡◌, List, ◌↔◌, ℕ, ◌<◌}
-use Rattle.std.proofs.Common.{sym, subst₂, arith}
+use Rattle.std.proofs.Common.{sym, subst₂}
 use Rattle.logic.specs.declared.Profile.{Profile}
 use Rattle.logic.specs.declared.Answer.{Answer}
 use Rattle.logic.specs.Checks.{Passes}
@@ -10,16 +10,17 @@ use Rattle.logic.specs.Heap.{Map, Stack, Heap}
 use Rattle.logic.specs.Formula.{Form}
 use Rattle.logic.specs.Tests.{heap_of}
 use Rattle.logic.proofs.Agree.{heap_of_heap}
-use Rattle.logic.specs.Book.{book_formula, vars_of, locs_of, path_of, book_checks, Accepted}
-use Rattle.logic.proofs.BookLaws.{accepted_whole}
+use Rattle.logic.specs.Book.{vars_of, locs_of, book_checks, Accepted}
 use Rattle.logic.specs.Model.{stack_in, heap_in, model_checks, judge_checks, Fits, FitsBook, Verdict, Judges}
-use Rattle.logic.proofs.ModelLaws.{model_stack, model_heap_is}
 use Rattle.logic.specs.Candidates.{total, stack_of}
-use Rattle.logic.proofs.CandidateLaws.{stack_of_stack, number_lt, stack_of_number, heap_of_its_number, stack_in_model, heap_in_model, model_in_range}
+use Rattle.logic.proofs.CandidateLaws.{stack_of_stack, number_lt, stack_of_number, heap_of_its_number, model_in_range}
 use Rattle.logic.specs.Search.{CandidateFits}
 use Rattle.laws.proofs.SameAnswers.{verdict_same}
 use Rattle.laws.specs.Renumbering.{Renumbering, new_stack, new_heap, renumbered_model, renumbered_candidate}
-use Rattle.laws.proofs.RenumberingLaws.{new_stack_is, new_heap_is, renumbered}
+use Rattle.laws.proofs.RenumberingLaws.{new_stack_is, new_heap_is}
+use Rattle.laws.proofs.RenumberedTruth.{renumbered}
+use Rattle.laws.proofs.RenumberedMaps.{new_stack_in, new_heap_in}
+use Rattle.laws.proofs.RenumberedModels.{model_renumbered}
 
 -- ---- candidates
 
@@ -55,26 +56,11 @@ judges_verdict π s m a ok range =
     (answers_rest (judge_checks s m) (Verdict (FitsBook π s m)) a both, answers_passed (judge_checks s m) (Verdict (FitsBook π s m)) a both)
 
 module _ (π : Profile) (s : List ℕ) (ok : Accepted s) (to from : Map) (w : Renumbering (locs_of s) to from) (m : List ℕ) (range : Passes (model_checks (vars_of s) (locs_of s) m)) where
-  new_stack_in : Stack (vars_of s) (locs_of s) (new_stack to (stack_in (vars_of s) m))
-  new_stack_in = new_stack_is (locs_of s) to from w (vars_of s) (stack_in (vars_of s) m) (model_stack (vars_of s) (locs_of s) m range)
-
-  new_heap_in : Heap (locs_of s) (new_heap to from (heap_in (vars_of s) (locs_of s) m))
-  new_heap_in = new_heap_is (locs_of s) to from w (heap_in (vars_of s) (locs_of s) m) (model_heap_is (vars_of s) (locs_of s) m range)
-
-  pub model_renumbered : FitsBook π s m ↔ FitsBook π s (renumbered_model (vars_of s) (locs_of s) to from m)
-  model_renumbered =
-      let S = new_stack to (stack_in (vars_of s) m) in
-      let H = new_heap to from (heap_in (vars_of s) (locs_of s) m) in
-      subst₂ (λ (x y : Map). FitsBook π s m ↔ Fits π (vars_of s) (locs_of s) (path_of s) (book_formula s) x y)
-      (sym (stack_in_model (vars_of s) (locs_of s) S H new_stack_in))
-      (sym (heap_in_model (vars_of s) (locs_of s) S H (omega (arith, (accepted_whole s ok).bounds.locs)) new_heap_in))
-      (renumbered π (vars_of s) (locs_of s) (path_of s) (book_formula s) to from w (stack_in (vars_of s) m) (heap_in (vars_of s) (locs_of s) m))
-
   -- number, place and tried are the same
   pub renumbered_judged : (a : Answer) → Judges π s m a ↔ Judges π s (renumbered_model (vars_of s) (locs_of s) to from m) a
   renumbered_judged a =
       let m' = renumbered_model (vars_of s) (locs_of s) to from m in
       let old = judges_verdict π s m a ok range in
-      let new = judges_verdict π s m' a ok (model_in_range (vars_of s) (locs_of s) (new_stack to (stack_in (vars_of s) m)) (new_heap to from (heap_in (vars_of s) (locs_of s) m)) new_stack_in new_heap_in) in
-      let i = model_renumbered in
+      let new = judges_verdict π s m' a ok (model_in_range (vars_of s) (locs_of s) (new_stack to (stack_in (vars_of s) m)) (new_heap to from (heap_in (vars_of s) (locs_of s) m)) (new_stack_in π s ok to from w m range) (new_heap_in π s ok to from w m range)) in
+      let i = model_renumbered π s ok to from w m range in
       (λ q. new.1 (verdict_same a i (old.0 q)), λ q. old.1 (verdict_same a (i.1, i.0) (new.0 q)))

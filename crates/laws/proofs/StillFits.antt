@@ -17,7 +17,8 @@ use Rattle.logic.specs.Candidates.{bytes_to, byte_of, model_bytes}
 use Rattle.logic.proofs.CandidateLaws.{model_in_range, model_of_model}
 use Rattle.laws.specs.Negations.{NoneUnderNegation}
 use Rattle.laws.specs.Wider.{Wider, widened}
-use Rattle.laws.proofs.MoreLocations.{stack_more, model_more}
+use Rattle.laws.proofs.MoreLocations.{stack_more}
+use Rattle.laws.proofs.WiderBooks.{model_more}
 
 -- the bytes of k and j more, where these are all x
 bytes_more : (k j x : ℕ) (f : Map) → ((i : ℕ) → k ≤ i → f (suc i) ≡ x) → bytes_to (k + j) f ≡ bytes_to k f ++ replicate j x

@@ -20,7 +20,8 @@ use Rattle.laws.proofs.ExchangeLaws.{exchange_first, exchange_second, exchange_o
 use Rattle.skips.specs.Counts.{incoming, outgoing, above}
 use Rattle.skips.proofs.CountLaws.{incoming_same, incoming_sub, out_none, out_le, out_same, above_sub, above_same}
 use Rattle.skips.specs.Facts.{Digits, Caps, Hopeless}
-use Rattle.skips.proofs.LowestLaws.{labels_in_order, heap_not_lower}
+use Rattle.skips.proofs.LowestLaws.{labels_in_order}
+use Rattle.skips.proofs.UnnamedLaws.{heap_not_lower}
 use Rattle.skips.specs.Order.{Lower}
 use Rattle.skips.proofs.Order.{lt_lower}
 use Rattle.skips.specs.Blocks.{weight, Skippable, most_outgoing}

@@ -4,6 +4,7 @@ pub mod BoundRules
 pub mod RangeLaws
 pub mod Order
 pub mod LowestLaws
+pub mod UnnamedLaws
 pub mod BlockLaws
 pub mod BlockFacts
 pub mod AfterLaws

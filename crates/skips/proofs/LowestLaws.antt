@@ -1,7 +1,6 @@
--- The lowest candidate that fits is not above what it gives by a renumbering: its variables are named in order, and so are its
--- unnamed locations. Assumes nothing.
+-- The lowest candidate that fits is not above what it gives by a renumbering: its variables are named in order. Assumes nothing.
 use Rattle.std.specs.Prelude.{◌≡◌, refl, ℕ, suc, ◌+◌, ◌-◌, ◌*◌, ◌^◌, ◌<◌, ◌≤◌}
-use Rattle.std.proofs.Common.{subst, arith}
+use Rattle.std.proofs.Common.{arith}
 use Rattle.std.proofs.Math.Path.{fun_ext}
 use Rattle.std.proofs.Math.Decide.{dec_le, dec_lt}
 use Rattle.std.proofs.Math.Arith.{digits_lt}
@@ -71,7 +70,7 @@ module _ (π : Profile) (v n p : ℕ) (F : Form) (c : ℕ) (q : Lowest (Candidat
   -- ---- the unnamed locations
 
   module _ (a b : ℕ) (la : 1 ≤ a) (ma : a ≤ n) (lb : 1 ≤ b) (mb : b ≤ n) (ua : ¬ Named v (stack_of v n c) a) (ub : ¬ Named v (stack_of v n c) b) where
-    stack_stays : exchanged_stack a b (stack_of v n c) ≡ stack_of v n c
+    pub stack_stays : exchanged_stack a b (stack_of v n c) ≡ stack_of v n c
     unfolding new_stack
     stack_stays = fun_ext λ x. exchange_other a b (stack_of v n c x) (unnamed a la ua x) (unnamed b lb ub x)
       where
@@ -81,17 +80,3 @@ module _ (π : Profile) (v n p : ℕ) (F : Form) (c : ℕ) (q : Lowest (Candidat
             go : Dec (x ≤ v) → ⊥
             go (yes m) = u (x, m, e)
             go (no m) = absurd (omega (arith, e, (stack_of_stack v n c).past x (omega arith)))
-
-    -- the heap is not above what it gives by an exchange of two unnamed locations
-    pub unnamed_in_order : value_of (n + 2) n (heap_of n c) ≤ value_of (n + 2) n (exchanged_heap a b (heap_of n c))
-    unnamed_in_order =
-        let m : c ≤ number_of v n (stack_of v n c) (exchanged_heap a b (heap_of n c)) = subst (λ (s : Map). c ≤ number_of v n s (exchanged_heap a b (heap_of n c))) stack_stays (lowest_swap a b la ma lb mb) in
-        omega (arith, m, number_of_candidate v n c q.candidate)
-
-    pub heap_not_lower : ¬ Lower n (λ i. exchanged_heap a b (heap_of n c) (suc i)) (λ i. heap_of n c (suc i))
-    heap_not_lower r =
-        let h = heap_of n c in
-        let w = exchange_renumbering a b n la ma lb mb in
-        let kh = new_heap_is n (exchange a b) (exchange a b) w h (heap_of_heap n c) in
-        let l : value_of (n + 2) n (exchanged_heap a b h) < value_of (n + 2) n h = lower_lt (n + 2) n (λ i. exchanged_heap a b h (suc i)) (λ i. h (suc i)) (λ i. (heap_in_base n (exchanged_heap a b h) kh).low (suc i)) r in
-        absurd (omega (arith, l, unnamed_in_order))
