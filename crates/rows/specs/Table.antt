@@ -38,7 +38,7 @@ sets_in (sept a b) = 2 + (sets_in a + sets_in b)
 abbrev pub moved : Next → ℕ → ℕ → ℕ → Next
 moved s r i j = record { row = s.row + r; array = s.array + i; set = s.set + j }
 
--- "Operator 9 makes S1, S2 for its children": they are sets number s .set and s.set + 1
+-- "Operator 9 makes S1, S2 for its children": they are sets number s.set and s.set + 1
 abbrev pub two_sets : Next → Next
 two_sets s = record { row = s.row; array = s.array; set = s.set + 2 }
 
