@@ -9,7 +9,7 @@ use Rattle.logic.specs.Candidates.{number_of}
 use Rattle.cells.specs.Cells.{cells, Barred}
 use Rattle.skips.specs.Counts.{incoming, above}
 use Rattle.skips.specs.Blocks.{most_outgoing}
-use Rattle.skips.proofs.BlockFacts.{SkippableAt}
+use Rattle.skips.specs.BlockFacts.{SkippableAt}
 use Rattle.rootfacts.specs.RootFacts.{cap_at, Facts}
 
 -- more cells above j point to ℓ than the entry at ℓ allows

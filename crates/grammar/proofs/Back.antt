@@ -19,7 +19,8 @@ use Rattle.grammar.specs.Grammar.Reads.{an_emp}
 use Rattle.grammar.specs.Machine.{Frame, only_one, first_of, second_of, Spot, start, later, Mode, item, gap, empty, head, word, arg, name, nil, shut, over, words, reserved, viable, past, termed, begun, step, out, read, emits, ending, alive, run, dead, closing, opened}
 use Rattle.grammar.specs.Traces.{events_of, phrase_of_trace, whole}
 use Rattle.grammar.proofs.Traces.{ends, emitted, whole_emits, whole_alive}
-use Rattle.grammar.proofs.Steps.{onward, looks, ended}
+use Rattle.grammar.specs.Steps.{onward}
+use Rattle.grammar.proofs.Steps.{looks, ended}
 use Rattle.grammar.proofs.Forward.{run_means}
 use Rattle.grammar.specs.Begun.{Begun, Fine}
 use Rattle.grammar.proofs.Begun.{begun_name, fine_step}

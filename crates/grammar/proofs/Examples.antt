@@ -18,7 +18,7 @@ use Rattle.grammar.specs.Meaning.{collect, position, form_of, book_for}
 use Rattle.grammar.specs.Import.{Imports}
 use Rattle.grammar.specs.Machine.{run, step, begun, out, among, ending, alive, emits}
 use Rattle.grammar.specs.Outcome.{Outcome, taken, refused, outcome}
-use Rattle.grammar.proofs.PlaceLaws.{trace}
+use Rattle.grammar.specs.PlaceLaws.{trace}
 use Rattle.grammar.specs.Verdicts.{Settled}
 use Rattle.grammar.proofs.Verdicts.{settled}
 use Rattle.grammar.proofs.ImportLaws.{imports_single, imports_bounds, imports_refused, imports_written}

@@ -24,8 +24,10 @@ use Rattle.grammar.proofs.Spellings.{lower_no_blank, other, blank_no_letter, non
 use Rattle.grammar.specs.Traces.{events_of, phrase_of_trace}
 use Rattle.grammar.proofs.Traces.{emits_emits, emitted}
 use Rattle.grammar.specs.Steps.{waits}
-use Rattle.grammar.proofs.Steps.{past_alive, termed_alive, onward, goes, goes_still, alike, ended, skip_item, skip_head, skip_arg, skip_shut, skip_over}
+use Rattle.grammar.specs.Steps.{onward}
+use Rattle.grammar.proofs.Steps.{past_alive, termed_alive, goes, goes_still, alike, ended, skip_item, skip_head, skip_arg, skip_shut, skip_over}
 use Rattle.grammar.specs.Forward.{lettered}
+use Rattle.grammar.specs.Forward.{Behind}
 
 module _ (w : List ℕ) where
   -- ---- words
@@ -112,11 +114,6 @@ module _ (w : List ℕ) where
 
   -- ---- names
 
-  -- what may stand behind a term
-  abbrev pub Behind : Spot → ℕ → Type 0
-  Behind (start c) i = (b : ℕ) × (blank b ≡ true) × Byte w b i
-  Behind (later c y) i = ((b : ℕ) × (blank b ≡ true) × Byte w b i) ⊎ Byte w 41 i
-
   skip_termed : (x : Term) (p : Spot) (σ : List Frame) {b i : ℕ} → blank b ≡ true → Byte w b i → onward w (termed x p σ) i ≡ onward w (termed x p σ) (suc i)
   skip_termed x (start c) σ h q = skip_arg w (later c x) σ (a_blank h q no_blank)
   skip_termed x (later c y) σ h q = skip_shut w (relate c y x) σ (a_blank h q no_blank)
@@ -131,7 +128,7 @@ module _ (w : List ℕ) where
       goes w (name x p σ) (termed (name_term x) p σ) q (rw (blank_no_letter b h, other blank b 46 h refl, r, h)) (termed_alive (name_term x) p σ)
       ∙ rw (blank_no_letter b h, other blank b 46 h refl, no_shuts p b i h) (ap (emits (named x (i - length x) i ∷ [])) (sym (skip_termed (name_term x) p σ h q)))
 
-  pub run_name : (x : List ℕ) (p : Spot) (σ : List Frame) (i : ℕ) → reserved x ≡ false → Behind p i → onward w (name x p σ) i ≡ emits (named x (i - length x) i ∷ []) (onward w (termed (name_term x) p σ) i)
+  pub run_name : (x : List ℕ) (p : Spot) (σ : List Frame) (i : ℕ) → reserved x ≡ false → Behind w p i → onward w (name x p σ) i ≡ emits (named x (i - length x) i ∷ []) (onward w (termed (name_term x) p σ) i)
   unfolding step out emits
   run_name x (start c) σ i r h = name_blank x (start c) σ r h.1 h.2
   run_name x (later c y) σ i r (inl h) = name_blank x (later c y) σ r h.1 h.2
@@ -139,7 +136,7 @@ module _ (w : List ℕ) where
       goes w (name x (later c y) σ) (past false (relate c y (name_term x)) σ) q (rw r) (past_alive false (relate c y (name_term x)) σ)
       ∙ ap (event (named x (i - length x) i)) (sym (goes w (shut (relate c y (name_term x)) σ) (past false (relate c y (name_term x)) σ) q refl (past_alive false (relate c y (name_term x)) σ)))
 
-  pub run_nil : (p : Spot) (σ : List Frame) (i : ℕ) → Behind p i → onward w (nil [] p σ) i ≡ onward w (termed nil_term p σ) i
+  pub run_nil : (p : Spot) (σ : List Frame) (i : ℕ) → Behind w p i → onward w (nil [] p σ) i ≡ onward w (termed nil_term p σ) i
   unfolding step out emits
   run_nil (start c) σ i h = goes_still w (nil [] (start c) σ) (termed nil_term (start c) σ) h.2 (rw h.1) (termed_alive nil_term (start c) σ) refl ∙ sym (skip_termed nil_term (start c) σ h.1 h.2)
   run_nil (later c y) σ i (inl h) =
@@ -179,7 +176,7 @@ module _ (w : List ℕ) where
   spelt_long (one_more q k) = omega (arith, spelt_long k)
 
   -- a term, with what is behind it
-  pub run_term : (x : Term) (p : Spot) (σ : List Frame) {i j : ℕ} → Stands w x i j → Behind p j → onward w (arg p σ) i ≡ emits (seen x i j) (onward w (termed x p σ) j)
+  pub run_term : (x : Term) (p : Spot) (σ : List Frame) {i j : ℕ} → Stands w x i j → Behind w p j → onward w (arg p σ) i ≡ emits (seen x i j) (onward w (termed x p σ) j)
   unfolding step out alive emits same_bytes
   run_term nil_term p σ {i} {j} (a_nil (one_more q (one_more r (one_more s (one_more t k))))) h =
       goes_still w (arg p σ) (name (115 ∷ []) p σ) q refl refl refl

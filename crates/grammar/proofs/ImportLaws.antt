@@ -20,7 +20,7 @@ use Rattle.grammar.specs.Listing.{size_of}
 use Rattle.grammar.specs.Meaning.{number_of, names_of, meaning, book_for}
 use Rattle.grammar.specs.Import.{GoodWithin, Good, ReadingWithin, Reading, complains, no_room, reads, import_checks, Imports}
 use Rattle.grammar.proofs.Forward.{one_meaning}
-use Rattle.grammar.proofs.PlaceLaws.{trace}
+use Rattle.grammar.specs.PlaceLaws.{trace}
 use Rattle.grammar.specs.Verdicts.{Only, Taken, Settled}
 use Rattle.grammar.proofs.Verdicts.{only_refused, settled, refused_single}
 use Rattle.grammar.proofs.MeaningLaws.{nodes_reads, names_reads}

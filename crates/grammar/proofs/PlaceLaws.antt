@@ -5,7 +5,7 @@ use Rattle.std.proofs.Math.Decide.{dec_lt}
 use Rattle.grammar.specs.Phrase.{letter, choose}
 use Rattle.grammar.specs.Grammar.{Event, Means}
 use Rattle.grammar.specs.Places.{Goes, BadAt, finished_by, before, Finished, all_of_it, up_to_26}
-use Rattle.grammar.specs.Machine.{Spot, start, later, Mode, item, gap, empty, head, word, arg, name, nil, shut, over, step, shuts, out, Trace, bad, emits, alive, run, dead}
+use Rattle.grammar.specs.Machine.{Spot, start, later, Mode, item, gap, empty, head, word, arg, name, nil, shut, over, step, shuts, out, bad, emits, alive, run, dead}
 use Rattle.grammar.specs.Traces.{events_of, phrase_of_trace, whole}
 use Rattle.grammar.proofs.Traces.{ending_none, bad_none, emitted, events_emits}
 use Rattle.grammar.proofs.Forward.{run_means}
@@ -13,6 +13,7 @@ use Rattle.grammar.proofs.Back.{means_run}
 use Rattle.grammar.specs.Halts.{after, during, Halt}
 use Rattle.grammar.proofs.Halts.{halt, stop, along, halted, bad_here}
 use Rattle.grammar.specs.PlaceLaws.{Each}
+use Rattle.grammar.specs.PlaceLaws.{trace}
 
 -- ---- one place for 26
 
@@ -116,24 +117,21 @@ before_append k (x ∷ xs) ys = go (ltb (finished_by x) k) (before_append k xs y
 -- ---- the events of a text are those of its trace
 
 module _ (s : List ℕ) where
-  abbrev pub trace : Trace
-  trace = run (item []) 0 s
-
   -- a text is read, or halts
-  pub either : (whole trace ≡ true) ⊎ Halt (item []) s
-  either = go (whole trace) refl
+  pub either : (whole (trace s) ≡ true) ⊎ Halt (item []) s
+  either = go (whole (trace s)) refl
     where
-      go : (c : Bool) → whole trace ≡ c → (whole trace ≡ true) ⊎ Halt (item []) s
+      go : (c : Bool) → whole (trace s) ≡ c → (whole (trace s) ≡ true) ⊎ Halt (item []) s
       go true e = inl e
       go false e = inr (halt (item []) 0 s e)
 
-  pub halt_events : (h : Halt (item []) s) → events_of trace ≡ during (item []) 0 h.done
+  pub halt_events : (h : Halt (item []) s) → events_of (trace s) ≡ during (item []) 0 h.done
   halt_events h = ap events_of (halted s h) ∙ events_emits (during (item []) 0 h.done) (bad (stop s h)) ∙ ap (λ (z : List Event). during (item []) 0 h.done ++ z) (bad_none (stop s h)) ∙ append-nil (during (item []) 0 h.done)
 
-  pub finished_events : (es : List Event) → Finished s es → es ≡ events_of trace
+  pub finished_events : (es : List Event) → Finished s es → es ≡ events_of (trace s)
   finished_events es (all_of_it F m) = sym (emitted es F).0 ∙ ap events_of (sym (run_means s m))
   finished_events es (up_to_26 k u F fs b m e) =
-      ⊎_elim (λ (r : whole trace ≡ true). absurd (b.none (phrase_of_trace trace) (events_of trace) (means_run s r)))
+      ⊎_elim (λ (r : whole (trace s) ≡ true). absurd (b.none (phrase_of_trace (trace s)) (events_of (trace s)) (means_run s r)))
       (λ (h : Halt (item []) s).
       let d = h.done in
       let ds = during (item []) 0 d in
@@ -145,9 +143,9 @@ module _ (s : List ℕ) where
       let late : before k (events_of (run (after (item []) d) (stop s h) u)) ≡ [] = before_none k (events_of (run (after (item []) d) (stop s h) u)) (each_more (λ j. stop s h ≤ j) (λ j. k ≤ j) (λ j l. omega (arith, same_k)) (events_of (run (after (item []) d) (stop s h) u)) (run_late (after (item []) d) (stop s h) u)) in
       e ∙ ap (before k) all ∙ before_append k ds (events_of (run (after (item []) d) (stop s h) u)) ∙ ap₂ (λ (x y : List Event). x ++ y) early late ∙ append-nil ds ∙ sym (halt_events h)) either
 
-  pub finished_trace : Finished s (events_of trace)
+  pub finished_trace : Finished s (events_of (trace s))
   finished_trace =
-      ⊎_elim (λ (r : whole trace ≡ true). all_of_it (phrase_of_trace trace) (means_run s r))
+      ⊎_elim (λ (r : whole (trace s) ≡ true). all_of_it (phrase_of_trace (trace s)) (means_run s r))
       (λ (h : Halt (item []) s).
       let b = bad_here s h in
       let g = b.goes in

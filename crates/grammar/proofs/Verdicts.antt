@@ -21,7 +21,8 @@ use Rattle.grammar.proofs.Back.{means_run}
 use Rattle.grammar.specs.Halts.{during, Halt}
 use Rattle.grammar.proofs.Halts.{stop, halted, bad_here}
 use Rattle.grammar.specs.PlaceLaws.{Each}
-use Rattle.grammar.proofs.PlaceLaws.{one_place, each_more, during_early, trace, either, halt_events, finished_events, finished_trace}
+use Rattle.grammar.specs.PlaceLaws.{trace}
+use Rattle.grammar.proofs.PlaceLaws.{one_place, each_more, during_early, either, halt_events, finished_events, finished_trace}
 use Rattle.grammar.specs.Sorted.{Sorted}
 use Rattle.grammar.proofs.Sorted.{sorted_run}
 use Rattle.grammar.specs.LowestLaws.{Clean, Excess, nodes_first, names_first}

@@ -6,7 +6,8 @@ use mathlib.Core.List.{List, [], ◌++◌, append_assoc}
 use Rattle.std.proofs.Math.Nat.{zero-add}
 use Rattle.std.proofs.Math.ListN.{length, drop, length-append}
 use Rattle.std.proofs.Math.Seq.{paste, drop-append-add}
-use Rattle.grammar.proofs.Steps.{onward, looks, ended, skip_over}
+use Rattle.grammar.specs.Steps.{onward}
+use Rattle.grammar.proofs.Steps.{looks, ended, skip_over}
 use Rattle.logic.specs.declared.Answer.{Answer}
 use Rattle.logic.specs.Numbers.{answer, yes_number, bounds, output_length, bad_text}
 use Rattle.logic.specs.Book.{most, head_of}

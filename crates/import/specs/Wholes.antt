@@ -2,7 +2,7 @@
 use Rattle.std.specs.Prelude.{◌≡◌, List, [], ◌++◌, ℕ, ◌+◌, ◌*◌, drop}
 use Rattle.logic.specs.Book.{head_of}
 use Rattle.grammar.specs.Phrase.{Phrase}
-use Rattle.grammar.proofs.PlaceLaws.{trace}
+use Rattle.grammar.specs.PlaceLaws.{trace}
 use Rattle.grammar.specs.Listing.{size_of, listing}
 use Rattle.grammar.specs.Meaning.{names_of, meaning}
 use Rattle.grammar.specs.Outcome.{outcome, taken, refused}

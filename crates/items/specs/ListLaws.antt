@@ -13,7 +13,8 @@ use Rattle.grammar.specs.Phrase.Join.{and_word, or_word, sep_word, wand_word}
 use Rattle.grammar.specs.Grammar.{adds, deepest, Byte}
 use Rattle.grammar.specs.Machine.{Frame, only_one, first_of, second_of, start, later, item, head, arg, shut, step as next, alive}
 use Rattle.grammar.specs.Steps.{waits}
-use Rattle.grammar.proofs.Steps.{onward, looks, skip_item}
+use Rattle.grammar.specs.Steps.{onward}
+use Rattle.grammar.proofs.Steps.{looks, skip_item}
 use Rattle.grammar.proofs.Forward.{run_open}
 use Rattle.grammar.specs.Listing.{size_of, listing}
 use Rattle.grammar.specs.Meaning.{collect, note_term, number_of, join_form, atom_form, form_of}

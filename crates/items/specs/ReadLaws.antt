@@ -9,7 +9,7 @@ use Rattle.logic.specs.Numbers.{bad_text, many_nodes}
 use Rattle.grammar.specs.Phrase.{Phrase, emp}
 use Rattle.grammar.specs.Grammar.{finished, Edge}
 use Rattle.grammar.specs.Machine.{Frame, Mode, item, shut, past, own, Trace, bad, emits}
-use Rattle.grammar.proofs.Steps.{onward}
+use Rattle.grammar.specs.Steps.{onward}
 use Rattle.grammar.specs.Listing.{size_of, listing}
 use Rattle.grammar.proofs.ListingLaws.{size_some}
 use Rattle.grammar.specs.Meaning.{collect, form_of}

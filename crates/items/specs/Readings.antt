@@ -4,7 +4,7 @@ use Rattle.logic.specs.Numbers.{bad_text, many_nodes}
 use Rattle.logic.specs.Formula.{Form}
 use Rattle.grammar.specs.Phrase.{Phrase}
 use Rattle.grammar.specs.Machine.{Frame, Mode, past}
-use Rattle.grammar.proofs.Steps.{onward}
+use Rattle.grammar.specs.Steps.{onward}
 use Rattle.grammar.specs.Listing.{size_of, listing}
 use Rattle.grammar.specs.Meaning.{collect, number_of, form_of}
 use Rattle.grammar.specs.Outcome.{outcome, refused}

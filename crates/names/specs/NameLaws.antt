@@ -7,7 +7,8 @@ use Prim.Native.Nat.{ℕ, suc, ◌+◌, ◌≤◌, ◌<◌}
 use Rattle.std.proofs.lemmas.List.{length-map}
 use Rattle.std.proofs.Math.ListN.{get_or-map}
 use borrow.Author.Tests.{eqb-true, eq-eqb, ne_eqb, lt-ltb, le-ltb}
-use Rattle.grammar.proofs.Steps.{onward, skip_arg}
+use Rattle.grammar.specs.Steps.{onward}
+use Rattle.grammar.proofs.Steps.{skip_arg}
 use Rattle.logic.specs.Numbers.{bad_text, many_names}
 use Rattle.logic.specs.Book.{most}
 use Rattle.logic.specs.Tests.{andb}

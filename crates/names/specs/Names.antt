@@ -1,6 +1,6 @@
 -- The names so far, as the code holds them, and what numbering one more gives. Assumes nothing: these are definitions.
 use Rattle.std.specs.Prelude.{◌≡◌, Bool, false, List, map, ℕ, suc, ◌≤◌, ◌<◌, length, take}
-use Rattle.grammar.proofs.Steps.{onward}
+use Rattle.grammar.specs.Steps.{onward}
 use Rattle.logic.specs.Book.{most}
 use Rattle.grammar.specs.Phrase.{Term}
 use Rattle.grammar.specs.Machine.{Frame, Spot, arg, termed}

@@ -16,7 +16,7 @@ use Rattle.skips.specs.Facts.{Digits, Caps, Hopeless}
 use Rattle.skips.proofs.DigitRules.{hopeless, digits_hopeless}
 use Rattle.skips.proofs.BoundRules.{caps_hopeless}
 use Rattle.skips.specs.Blocks.{most_outgoing}
-use Rattle.skips.proofs.BlockFacts.{SkippableAt}
+use Rattle.skips.specs.BlockFacts.{SkippableAt}
 use Rattle.skips.proofs.HereLaws.{hopeless_here, digit_here, crowded_here}
 use Rattle.facts.specs.declared.Fact.{Fact}
 use Rattle.facts.specs.Known.{In}

@@ -11,7 +11,7 @@ use Rattle.logic.specs.Paths.{Path}
 use Rattle.logic.specs.Tests.{pick, heap_of}
 use Rattle.logic.specs.Digits.{num_of}
 use Rattle.logic.proofs.Agree.{heap_of_heap}
-use Rattle.logic.specs.Candidates.{total, stack_of}
+use Rattle.logic.specs.Candidates.{stack_of}
 use Rattle.logic.specs.Search.{CandidateFits}
 use Rattle.laws.specs.Renumbering.{renumbered_digit, new_heap}
 use Rattle.laws.proofs.RenumberingLaws.{new_heap_is}
@@ -24,8 +24,9 @@ use Rattle.skips.proofs.LowestLaws.{labels_in_order}
 use Rattle.skips.proofs.UnnamedLaws.{heap_not_lower}
 use Rattle.skips.specs.Order.{Lower}
 use Rattle.skips.proofs.Order.{lt_lower}
-use Rattle.skips.specs.Blocks.{weight, Skippable, most_outgoing}
+use Rattle.skips.specs.Blocks.{most_outgoing}
 use Rattle.skips.proofs.BlockLaws.{weight_first, block_heap, block_whole_stack, block_stack}
+use Rattle.skips.specs.BlockFacts.{SkippableAt}
 
 out_most_is : (j n : ℕ) (g h : Map) (ℓ : ℕ) → Heap n g → ((i : ℕ) → j < i → g i ≡ h i) → outgoing g ℓ ≤ most_outgoing j h ℓ
 unfolding most_outgoing
@@ -47,12 +48,8 @@ pair_above j a r l f ℓ m = go (ℕ_discrete ℓ a) (ℕ_discrete ℓ (suc a)) 
     go (no e) (no w) u = omega (arith, exchange_other a (suc a) ℓ e w)
 
 module _ (π : Profile) (v n p : ℕ) (F : Form) (i : ℕ) where
-  -- no candidate of the block of i that has j digits free is the lowest that fits
-  abbrev pub SkippableAt : ℕ → Type 0
-  SkippableAt j = Skippable (CandidateFits π v n p F) (total v n) (weight n j) i
-
   -- the candidate was judged
-  pub skip_tried : ¬ CandidateFits π v n p F i → SkippableAt 0
+  pub skip_tried : ¬ CandidateFits π v n p F i → SkippableAt π v n p F i 0
   skip_tried f c e q =
       let z : c ≡ i = sym (div-one c) ∙ ap (λ (w : ℕ). c / w) (sym (weight_first n)) ∙ e ∙ ap (λ (w : ℕ). i / w) (weight_first n) ∙ div-one i in
       f (subst (CandidateFits π v n p F) z q.fits)
@@ -60,14 +57,14 @@ module _ (π : Profile) (v n p : ℕ) (F : Form) (i : ℕ) where
   -- ---- the stack
 
   -- variable x + 1 has a location over 1 + the greatest of the variables above
-  pub skip_label : (x top : ℕ) → x < v → ((y : ℕ) → suc x < y → y ≤ v → stack_of v n i y ≤ top) → suc top < stack_of v n i (suc x) → SkippableAt (n + x)
+  pub skip_label : (x top : ℕ) → x < v → ((y : ℕ) → suc x < y → y ≤ v → stack_of v n i y ≤ top) → suc top < stack_of v n i (suc x) → SkippableAt π v n p F i (n + x)
   skip_label x top l m f c e q =
       let same = block_stack n i c v x e in
       let b : stack_of v n c (suc x) ≤ suc top = labels_in_order π v n p F c q x top l (λ y u w. subst (λ (z : ℕ). z ≤ top) (sym (same y (omega arith))) (m y u w)) in
       absurd (omega (arith, b, same (suc x) (omega arith)))
 
   -- the formula holds on no heap
-  pub skip_hopeless : Hopeless π v n F (stack_of v n i) → SkippableAt n
+  pub skip_hopeless : Hopeless π v n F (stack_of v n i) → SkippableAt π v n p F i n
   unfolding Hopeless
   skip_hopeless none c e q =
       let there = subst (Hopeless π v n F) (sym (block_whole_stack n i c v n (omega arith) e)) none in
@@ -77,14 +74,14 @@ module _ (π : Profile) (v n p : ℕ) (F : Form) (i : ℕ) where
 
   module _ (j : ℕ) (low : j ≤ n) where
     -- the digit at ℓ may not stand there
-    pub skip_digit : (ℓ : ℕ) → j < ℓ → (P : ℕ → Type 0) → Digits π v n F (stack_of v n i) ℓ P → ¬ P (heap_of n i ℓ) → SkippableAt j
+    pub skip_digit : (ℓ : ℕ) → j < ℓ → (P : ℕ → Type 0) → Digits π v n F (stack_of v n i) ℓ P → ¬ P (heap_of n i ℓ) → SkippableAt π v n p F i j
     unfolding Digits
     skip_digit ℓ l P f none c e q =
         let fits = subst (λ (s : Map). Digits π v n F s ℓ P) (sym (block_whole_stack n i c v j low e)) f in
         none (subst P (block_heap n i c j low e ℓ l) (fits (heap_of n c) (heap_of_heap n c) q.fits.0))
 
     -- more cells above j point to ℓ than may
-    pub skip_crowded : (ℓ k : ℕ) → Caps π v n F (stack_of v n i) ℓ k → most_outgoing j (heap_of n i) ℓ + k < incoming n (above (suc j) (heap_of n i)) ℓ + 1 → SkippableAt j
+    pub skip_crowded : (ℓ k : ℕ) → Caps π v n F (stack_of v n i) ℓ k → most_outgoing j (heap_of n i) ℓ + k < incoming n (above (suc j) (heap_of n i)) ℓ + 1 → SkippableAt π v n p F i j
     unfolding Caps
     skip_crowded ℓ k f m c e q =
         let g = heap_of n c in
@@ -96,7 +93,7 @@ module _ (π : Profile) (v n p : ℕ) (F : Form) (i : ℕ) where
         absurd (omega (arith, m, a, b, out_most_is j n g h ℓ (heap_of_heap n c) same, fits g (heap_of_heap n c) q.fits.0))
 
     -- the cells above j make a path of more than p links
-    pub skip_long : (k : ℕ) → p < k → Path k (above (suc j) (heap_of n i)) → SkippableAt j
+    pub skip_long : (k : ℕ) → p < k → Path k (above (suc j) (heap_of n i)) → SkippableAt π v n p F i j
     unfolding above
     skip_long k l q c e r =
         r.fits.1 k l (record { at = q.at; link = λ x m. link' (q.at x) (q.at (suc x)) (dec_lt (q.at x) (suc j)) (q.link x m); different = q.different })
@@ -110,7 +107,7 @@ module _ (π : Profile) (v n p : ℕ) (F : Form) (i : ℕ) where
 
     module _ (a b : ℕ) (la : 1 ≤ a) (ma : a ≤ n) (lb : 1 ≤ b) (mb : b ≤ n) (ua : ¬ Named v (stack_of v n i) a) (ub : ¬ Named v (stack_of v n i) b) where
       -- exchanged they give a lower heap, by places that come from above j
-      pub skip_pair : (r : Lower n (λ x. exchanged_heap a b (heap_of n i) (suc x)) (λ x. heap_of n i (suc x))) → ((ℓ : ℕ) → r.place < ℓ → j < exchange a b ℓ) → j ≤ r.place → SkippableAt j
+      pub skip_pair : (r : Lower n (λ x. exchanged_heap a b (heap_of n i) (suc x)) (λ x. heap_of n i (suc x))) → ((ℓ : ℕ) → r.place < ℓ → j < exchange a b ℓ) → j ≤ r.place → SkippableAt π v n p F i j
       unfolding new_heap
       skip_pair r far up c e q =
           let same : (x : ℕ) → j < x → heap_of n c x ≡ heap_of n i x = block_heap n i c j low e in
@@ -125,7 +122,7 @@ module _ (π : Profile) (v n p : ℕ) (F : Form) (i : ℕ) where
           })
 
     -- neighbours, by the numbers that the digits above r are in a base in which they stand: how code compares them
-    pub skip_worse : (a : ℕ) → 1 ≤ a → suc a ≤ n → ¬ Named v (stack_of v n i) a → ¬ Named v (stack_of v n i) (suc a) → (r base k : ℕ) → j ≤ r → (j ≡ a → suc a ≤ r) → n ≤ r + k → n + 2 ≤ base → num_of base k (λ x. exchanged_heap a (suc a) (heap_of n i) (suc (r + x))) < num_of base k (λ x. heap_of n i (suc (r + x))) → SkippableAt j
+    pub skip_worse : (a : ℕ) → 1 ≤ a → suc a ≤ n → ¬ Named v (stack_of v n i) a → ¬ Named v (stack_of v n i) (suc a) → (r base k : ℕ) → j ≤ r → (j ≡ a → suc a ≤ r) → n ≤ r + k → n + 2 ≤ base → num_of base k (λ x. exchanged_heap a (suc a) (heap_of n i) (suc (r + x))) < num_of base k (λ x. heap_of n i (suc (r + x))) → SkippableAt π v n p F i j
     skip_worse a la ma ua ub r base k jr far nk big less =
         skip_pair a (suc a) la (omega arith) (omega arith) ma ua ub whole
         (λ ℓ m. pair_above j a r jr far ℓ (omega (arith, m)))

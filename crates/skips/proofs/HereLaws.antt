@@ -16,7 +16,8 @@ use Rattle.laws.specs.Exchange.{exchanged_heap}
 use Rattle.skips.specs.Counts.{incoming, above}
 use Rattle.skips.specs.Facts.{Digits, Caps, Hopeless}
 use Rattle.skips.specs.Blocks.{most_outgoing}
-use Rattle.skips.proofs.BlockFacts.{SkippableAt, skip_label, skip_hopeless, skip_digit, skip_crowded, skip_long, skip_worse}
+use Rattle.skips.specs.BlockFacts.{SkippableAt}
+use Rattle.skips.proofs.BlockFacts.{skip_label, skip_hopeless, skip_digit, skip_crowded, skip_long, skip_worse}
 
 module _ (π : Profile) (v n p : ℕ) (F : Form) (s h : Map) (ks : Stack v n s) (kh : Heap n h) where
   i : ℕ

@@ -4,3 +4,4 @@ pub mod BoundRules
 pub mod Ranges
 pub mod Order
 pub mod Blocks
+pub mod BlockFacts

@@ -19,7 +19,7 @@ use Rattle.levels.specs.Levels.{OutOfOrder}
 use Rattle.skips.specs.Ranges.{Passed}
 use Rattle.skips.specs.Blocks.{weight, after}
 use Rattle.skips.proofs.BlockLaws.{weight_first, weight_some}
-use Rattle.skips.proofs.BlockFacts.{SkippableAt}
+use Rattle.skips.specs.BlockFacts.{SkippableAt}
 use Rattle.skips.proofs.HereLaws.{label_here}
 use Rattle.rootfacts.specs.RootFacts.{digits_at, Facts}
 use Rattle.rootfacts.specs.RootLaws.{hopeless_goes}

@@ -7,7 +7,8 @@ use mathlib.Core.List.{List, [], ◌∷◌, ◌++◌}
 use native.Mathlib.Omega.{arith}
 use Rattle.std.proofs.Math.ListN.{get_or}
 use borrow.Author.Tests.{eqb-true, eqb-false, ne_eqb, le-leb, lt-leb}
-use Rattle.grammar.proofs.Steps.{onward, looks, goes_still}
+use Rattle.grammar.specs.Steps.{onward}
+use Rattle.grammar.proofs.Steps.{looks, goes_still}
 use Rattle.grammar.proofs.Spellings.{other}
 use Rattle.logic.specs.Tests.{andb, same_bytes}
 use Rattle.logic.specs.Reflect.{Is}
@@ -17,7 +18,8 @@ use Rattle.grammar.specs.Phrase.Join.{sep_word}
 use Rattle.grammar.specs.Grammar.{seen, blank, Byte, Spelt}
 use Rattle.grammar.specs.Grammar.Spelt.{no_more, one_more}
 use Rattle.grammar.specs.Machine.{Frame, Spot, start, later, arg, name, nil, dead, reserved, viable, termed, closing, step, out, bad, emits, alive, ending}
-use Rattle.grammar.proofs.Forward.{Behind, spells_nil, run_name, run_nil}
+use Rattle.grammar.specs.Forward.{Behind}
+use Rattle.grammar.proofs.Forward.{spells_nil, run_name, run_nil}
 use Rattle.words.specs.Words.{SpelledIs}
 use Rattle.words.specs.declared.Next.TheVariants.{At, Bad}
 use Rattle.words.specs.Stops.{stops, nil_misses}

@@ -1,11 +1,11 @@
 -- What the readers of terms find. Assumes nothing: these are definitions.
 use Rattle.std.specs.Prelude.{◌≡◌, Bool, true, false, List, ℕ, ◌+◌, ◌-◌, ◌≤◌, ◌<◌, length, get_or}
-use Rattle.grammar.proofs.Steps.{onward}
+use Rattle.grammar.specs.Steps.{onward}
 use Rattle.logic.specs.Reflect.{Is}
 use Rattle.grammar.specs.Phrase.{bytes, nil_term, letter}
 use Rattle.grammar.specs.Grammar.{seen}
 use Rattle.grammar.specs.Machine.{Frame, Spot, start, later, arg, name, nil, termed, bad, emits}
-use Rattle.grammar.proofs.Forward.{Behind}
+use Rattle.grammar.specs.Forward.{Behind}
 use Rattle.terms.specs.Letters.{letters_of, term_of}
 use Rattle.terms.specs.declared.Found.{Found}
 use Rattle.terms.specs.declared.Found.TheVariants.{Term as Reads, Wrong}

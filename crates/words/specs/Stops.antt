@@ -3,7 +3,8 @@ use Rattle.std.specs.Prelude.{◌≡◌, false, ℕ, ◌≤◌, ◌<◌, eqb, le
 use Rattle.std.proofs.Math.Path.{refl}
 use Rattle.std.proofs.Common.{sym, ◌∙◌, subst, ⊎_elim, eq-or-lt_of_le, eq-eqb, ne_eqb}
 use mathlib.Core.List.{List, [], ◌∷◌}
-use Rattle.grammar.proofs.Steps.{onward, looks, goes_still, ended}
+use Rattle.grammar.specs.Steps.{onward}
+use Rattle.grammar.proofs.Steps.{looks, goes_still, ended}
 use Rattle.grammar.specs.Phrase.{Word}
 use Rattle.grammar.specs.Grammar.{Byte}
 use Rattle.grammar.specs.Machine.{Frame, Spot, Mode, empty, word, nil, step, out, bad, alive, ending}

@@ -7,7 +7,8 @@ use mathlib.Core.List.{List, [], ◌∷◌}
 use Rattle.std.proofs.Math.ListN.{length, get_or-eq_default}
 use borrow.Author.Tests.{eq-eqb, ne_eqb, ltb-true, ltb-false, leb-true, lt-ltb, lt-leb}
 use Rattle.grammar.specs.Steps.{waits}
-use Rattle.grammar.proofs.Steps.{onward, looks, goes_still, skip_head, skip_shut}
+use Rattle.grammar.specs.Steps.{onward}
+use Rattle.grammar.proofs.Steps.{looks, goes_still, skip_head, skip_shut}
 use Rattle.logic.specs.Tests.{andb, orb, same_bytes}
 use Rattle.logic.specs.Reflect.{Is}
 use Rattle.logic.proofs.Reflect.{is_same_bytes, is_and, is_self, false_true}

@@ -1,7 +1,7 @@
 -- What the readers of blanks, edges, brackets and words find. Assumes nothing: these are definitions.
 use Rattle.std.specs.Prelude.{◌≡◌, true, false, List, [], ◌∷◌, ℕ, suc, ◌-◌, ◌≤◌, ◌<◌, ltb, length, get_or, drop}
 use Rattle.grammar.specs.Steps.{waits}
-use Rattle.grammar.proofs.Steps.{onward}
+use Rattle.grammar.specs.Steps.{onward}
 use Rattle.grammar.specs.Phrase.{Word, joins, denies, relates, Phrase, emp, spelling, sep_emp, sep_nil, choose}
 use Rattle.grammar.specs.Phrase.Join.{and_word, or_word, sep_word, wand_word}
 use Rattle.grammar.specs.Phrase.Atom.{equal_word, distinct_word, pto_word, ls_word}

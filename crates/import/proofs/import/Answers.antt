@@ -36,5 +36,5 @@ put_book-requires c = let w = c.whole-read.ensures.whole c.if-read-ne-YES.false 
 pub returns : goal.returns
 returns c =
     let a = c.args in
-    let w = c.whole-read.ensures.whole c.if-read-ne-YES.false in
-    import_written a.text.now a.n a.p _ w c.if-n.false c.if-p.false a.out.now c.answer_of-2.result _ c.answer_of-2.ensures c.if-out-read.false c.put_book.ensures
+    let y = c.whole-read.ensures.whole c.if-read-ne-YES.false in
+    import_written a.text.now a.n a.p _ y c.if-n.false c.if-p.false a.out.now c.answer_of-2.result _ c.answer_of-2.ensures c.if-out-read.false c.put_book.ensures

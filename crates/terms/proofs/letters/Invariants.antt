@@ -3,7 +3,7 @@ use mathlib.Core.Path.{◌≡◌}
 use mathlib.Core.List.{List}
 use Prim.Native.Nat.{◌+◌, ◌-◌, ◌≤◌, ◌<◌}
 use lib.ListN.{length}
-use Rattle.grammar.proofs.Steps.{onward}
+use Rattle.grammar.specs.Steps.{onward}
 use Rattle.grammar.specs.Machine.{Frame, Spot, name}
 use Rattle.terms.specs.Letters.{letters_of}
 use Rattle.terms.proofs.letters.Given as goal
