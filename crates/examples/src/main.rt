@@ -3,7 +3,7 @@
 // document states, whether the answer is that, and whether both judges agree on every candidate within the bounds.
 #![tactic(auto)]
 
-mod sweep; // both judges on every candidate
+mod compare; // both judges on every candidate
 mod report; // one example, one line
 mod scope; // documents 01 and 02
 mod thesis; // document 003

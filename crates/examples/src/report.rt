@@ -5,8 +5,8 @@
 // satisfies the formula's encoding and yields that model.
 ghost use Rattle.std.specs.Prelude.{◌<◌, ◌≤◌, length};
 
-use crate::sweep;
-use crate::sweep::Swept;
+use crate::compare;
+use crate::compare::Swept;
 use logic::{MODEL, Profile};
 use notation::{front, front_of_page};
 use std::io;
@@ -109,7 +109,7 @@ fn searched(
     number: u64,
 ) -> io::Result<Tally> {
     let wanted = [0u8; MODEL];
-    let swept = sweep::sweep(book, &wanted, bounds);
+    let swept = compare::sweep(book, &wanted, bounds);
     let mut out = [0u8; MODEL];
     let a = search::search(Profile::Strong, book, BUDGET, &mut out);
     say(rt, b", tried ")?;
@@ -127,7 +127,7 @@ fn judged(
     size: usize,
     number: u64,
 ) -> io::Result<Tally> {
-    let swept = sweep::sweep(book, wanted, bounds);
+    let swept = compare::sweep(book, wanted, bounds);
     let a = model::judge(Profile::Strong, book, front(wanted, size));
     let same = same_model(bounds, swept, a.number == logic::YES);
     end(rt, t, a.number == number && same, book, bounds, swept)
@@ -143,7 +143,7 @@ fn assigned(
     count: usize,
     wanted: &[u8; MODEL],
 ) -> io::Result<Tally> {
-    let swept = sweep::sweep(book, wanted, bounds);
+    let swept = compare::sweep(book, wanted, bounds);
     let a = assign::assign(Profile::Strong, book, front(values, count));
     end(
         rt,
