@@ -6,12 +6,9 @@ mod table;
 ghost use Rattle.logic.specs.Book.{most};
 ghost use Rattle.pairs.specs.Pairs.{Lists};
 
-// A table with a place for each of 256 sets and for each of their 6,561 pairs.
-pub type All = [u16; 6817];
-
-// The table. It is laid out on the stack where it is asked for, and takes as long as a short judgement: see `judge`.
-pub fn all() -> All
-    ensures { Lists most result }
+// The table: a place for each of 256 sets and for each of their 6,561 pairs.
+pub fn all() -> &'static [u16]
+    ensures { Lists most result.now }
 {
-    table::PAIRS
+    &table::PAIRS
 }

@@ -1,12 +1,11 @@
 -- Arrays that are unpacked row by row. Assumes nothing.
-use Rattle.std.specs.Prelude.{◌≡◌, refl, List, ℕ, zero, suc, ◌+◌, ◌*◌, ◌<◌, ◌≤◌, ltb, length, get_or, set, replicate}
+use Rattle.std.specs.Prelude.{◌≡◌, refl, List, ℕ, zero, suc, ◌+◌, ◌*◌, ◌<◌, ◌≤◌, ltb, length, get_or, set, take, drop, ◌-◌}
 use Rattle.std.proofs.Common.{sym, subst, ◌∙◌, ap, ⊎_elim, eq-or-lt_of_le, le_of_suc-le-suc, mul-le-mul_right, suc-mul, ne_of_lt, add-one, arith, get_or-set_same, get_or-set_other, lt-ltb, le-ltb}
 use Rattle.std.proofs.Math.Path.{fun_ext}
 use Rattle.std.proofs.Math.Decide.{dec_lt, ℕ_discrete}
-use Rattle.std.proofs.lemmas.List.{get_or-replicate}
+use Rattle.std.proofs.lemmas.List.{get_or-take, get_or-drop, length-take}
 use Rattle.std.proofs.Math.ListN.{get_or-eq_default}
 use Rattle.logic.specs.Tests.{pick}
-use Rattle.logic.specs.Book.{most}
 use Rattle.rows.specs.Assigned.{array_in}
 use Rattle.arrays.specs.Unpacked.{values_of}
 
@@ -27,26 +26,16 @@ set_each P d l i n x h all here k lt = go (ℕ_discrete k i)
     go (yes e) = subst P (sym (ap (λ (m : ℕ). get_or (set l i x) m d) e ∙ get_or-set_same l i x d h)) here
     go (no e) = subst P (sym (get_or-set_other l i k x d e)) (all k lt)
 
--- what is 0 from i on is 0 from i + 1 on once something is stored at i
-pub set_past : (l : List ℕ) (i x : ℕ) → ((k : ℕ) → i ≤ k → get_or l k 0 ≡ 0) → (k : ℕ) → i + 1 ≤ k → get_or (set l i x) k 0 ≡ 0
-set_past l i x z k h = get_or-set_other l i k x 0 (λ e. absurd (omega arith)) ∙ z k (omega arith)
-
-pub zeros : (k : ℕ) → ◌≡◌ {A = ℕ} (get_or (replicate most 0) k 0) 0
-zeros k = go (dec_lt k most)
+-- the n bytes from a place on, as code cuts them out
+pub bytes_are : (q : List ℕ) (at n j : ℕ) → get_or (take (at + n - at) (drop at q)) j 0 ≡ pick (ltb j n) (get_or q (at + j) 0) 0
+bytes_are q at n j = go (dec_lt j n)
   where
-    go : Dec (k < most) → ◌≡◌ {A = ℕ} (get_or (replicate most 0) k 0) 0
-    go (yes l) = get_or-replicate most k 0 0 l
-    go (no l) = get_or-eq_default (replicate most 0) 0 {n = k} (omega arith)
+    size : at + n - at ≡ n
+    size = omega arith
 
-pub filled : (l q : List ℕ) (at n j : ℕ) → j ≡ n → ((k : ℕ) → k < j → get_or l k 0 ≡ get_or q (at + k) 0) → ((k : ℕ) → j ≤ k → get_or l k 0 ≡ 0) → (k : ℕ) → get_or l k 0 ≡ pick (ltb k n) (get_or q (at + k) 0) 0
-filled l q at n j e f z k = go (dec_lt k n)
-  where
-    go : Dec (k < n) → get_or l k 0 ≡ pick (ltb k n) (get_or q (at + k) 0) 0
-    go (yes h) = f k (omega arith) ∙ sym (rw (lt-ltb k n h))
-    go (no h) = z k (omega arith) ∙ sym (rw (le-ltb k n (omega arith)))
-
-pub row_more : (i n : ℕ) → (i + 1) * n ≡ i * n + n
-row_more i n = ap (λ (m : ℕ). m * n) (add-one i) ∙ suc-mul i n
+    go : Dec (j < n) → get_or (take (at + n - at) (drop at q)) j 0 ≡ pick (ltb j n) (get_or q (at + j) 0) 0
+    go (yes l) = rw (size, lt-ltb j n l) (get_or-take n (drop at q) j 0 l ∙ get_or-drop at q j 0)
+    go (no l) = rw (size, le-ltb j n (omega arith)) (get_or-eq_default (take n (drop at q)) 0 {n = j} (omega (arith, length-take n (drop at q))))
 
 pub rows_fit : (i n m : ℕ) → i < m → i * n + n ≤ m * n
 rows_fit i n m h = subst (λ (k : ℕ). k ≤ m * n) (suc-mul i n) (mul-le-mul_right n h)

@@ -9,17 +9,13 @@ ghost use Rattle.arrays.specs.Unpacked.{Unpacked};
 
 use rows::{Arrays, Values};
 
-// An array's values: n bytes from a place on, and zeros.
-fn row(q: &[u8], at: usize, n: usize) -> Values
-    requires { (n ≤ most) × (at + n ≤ length q.now) }
-    ensures { ((j : ℕ) → get_or result j 0 ≡ pick (ltb j n) (get_or q.now (at + j) 0) 0) × (length result ≡ most) }
+// An array's values: its bytes, and zeros.
+fn row(bytes: &[u8]) -> Values
+    requires { length bytes.now ≤ most }
+    ensures { ((j : ℕ) → get_or result j 0 ≡ get_or bytes.now j 0) × (length result ≡ most) }
 {
     let mut r = [0u8; logic::MOST];
-    let mut j: usize = 0;
-    while j < n {
-        r[j] = q[at + j];
-        j += 1;
-    }
+    r[..bytes.len()].copy_from_slice(bytes);
     r
 }
 
@@ -29,12 +25,9 @@ pub fn unpack(q: &[u8], v: usize, n: usize, arrays: usize) -> Arrays
     ensures { Unpacked v n arrays q.now result }
 {
     let mut a = [[0u8; logic::MOST]; rows::ARRAYS];
-    let mut at = v;
-    let mut i: usize = 0;
-    while i < arrays {
-        a[i] = row(q, at, n);
-        at += n;
-        i += 1;
+    for i in 0..arrays {
+        let at = v + i * n;
+        a[i] = row(&q[at..at + n]);
     }
     a
 }

@@ -1,5 +1,5 @@
 -- The judge's answer, from what its steps say. Assumes nothing.
-use Rattle.std.specs.Prelude.{◌≡◌, Bool, List, ℕ, ◌+◌, ◌*◌, ◌≤◌, leb, length}
+use Rattle.std.specs.Prelude.{◌≡◌, Bool, Ok, List, ℕ, ◌+◌, ◌*◌, ◌≤◌, leb, length}
 use Rattle.std.proofs.Math.Path.{refl, sym, ap}
 use Rattle.std.proofs.Common.{subst, ◌∙◌, inl, inr, mul-le-mul_right}
 use Rattle.std.proofs.Math.Bool.{true, false}
@@ -19,6 +19,7 @@ use Rattle.logic.specs.Book.{book_formula, most, vars_of, locs_of, nodes, root, 
 use Rattle.logic.proofs.KnownLaws.{counted}
 use Rattle.logic.proofs.OpenLaws.{vars_low, locs_low, known, formula_is}
 use Rattle.logic.specs.Model.{Verdict, stack_in}
+use Rattle.leaves.specs.Refusals.{told}
 use Rattle.cells.specs.Cells.{cells, Barred}
 use Rattle.rows.specs.Meaning.{Short, Satisfies}
 use Rattle.rows.specs.Table.{arrays_in, sets_in, arrays, sets, table, Encodable}
@@ -106,6 +107,11 @@ module _ (q f : List ℕ) (v n a b : ℕ) (j : Judging q f v n a b) where
 pub assigns_book : (π : Profile) (s q : List ℕ) (a : Answer) → Reads s a → ¬ (a.number ≡ 0) → Assigns π s q a
 unfolding Reads Assigns
 assigns_book π s q a r w = answers_refused (book_checks s) (Verdict (SatisfiesBook π s q)) (assign_rest s q) a r w
+
+-- the answer of a test
+pub verdict_told : (b : Bool) {P : Type 0} → Is b P → Verdict P (told (Ok b))
+verdict_told true i = inl (i.to refl, refl)
+verdict_told false i = inr (fails false i refl, refl)
 
 -- f is the formula of an accepted book, and v, n and p are its bounds
 module _ (π : Profile) (s f q : List ℕ) (v n p : ℕ) (w : Bodies s f v n p) where

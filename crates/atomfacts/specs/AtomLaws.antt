@@ -4,7 +4,9 @@ use Rattle.std.proofs.Math.Path.{sym, subst, ap}
 use Rattle.std.proofs.Common.{subst₂, ◌∙◌, ap₂, eq-eqb, ne_eqb}
 use Rattle.std.proofs.Math.Logic.{⊎_elim}
 use native.Mathlib.Omega.{arith}
+use Rattle.std.specs.Int.{from_bool}
 use Rattle.std.specs.Int.Bits.{bit_and, bit_xor}
+use Rattle.std.proofs.Math.Decide.{ℕ_discrete}
 use Rattle.std.proofs.lemmas.Nat.{and_le_l, xor_lt}
 use Rattle.logic.specs.declared.Profile.{Profile}
 use Rattle.logic.specs.Heap.{Map}
@@ -19,8 +21,8 @@ use Rattle.skips.proofs.CountLaws.{hit_is, hit_not}
 use Rattle.skips.specs.Facts.{Digits, Caps, Needs, May, PointsDigit, ListCell, ListDigit, cap_of_path}
 use Rattle.skips.proofs.DigitRules.{hopeless, digits_more, digits_same, digits_diff, digits_pts, digits_ls}
 use Rattle.skips.proofs.BoundRules.{caps_same, caps_diff, caps_pts, caps_ls, needs_same, needs_diff, needs_pts, needs_ls}
-use Rattle.facts.specs.declared.Fact.{Fact}
-use Rattle.facts.specs.Known.{In, Small, Known}
+use Rattle.facts.specs.declared.fact.Fact.{Fact}
+use Rattle.facts.specs.Known.{In, Known}
 use Rattle.facts.specs.KnownLaws.{in_one, hopeless_known}
 use Rattle.atomfacts.specs.Atoms.{AtomAs, Dropped, PointsSet, ListSet}
 
@@ -31,6 +33,19 @@ one_there x l e = (sym (hit_is x l e), omega arith)
 
 pub one_elsewhere : (x l : ℕ) → ¬ (x ≡ l) → (0 ≡ hit (suc x) l) × (0 ≤ 1)
 one_elsewhere x l e = (sym (hit_not x l e), omega arith)
+
+pub one_is : (x l y : ℕ) → y ≡ from_bool (eqb x l) → (y ≡ hit (suc x) l) × (y ≤ 1)
+one_is x l y e = go (ℕ_discrete x l)
+  where
+    go : Dec (x ≡ l) → (y ≡ hit (suc x) l) × (y ≤ 1)
+    go (yes q) = rw (e, eq-eqb x l q) (one_there x l q)
+    go (no q) = rw (e, ne_eqb x l q) (one_elsewhere x l q)
+
+pub cap_is : (a b l y z : ℕ) → y ≡ from_bool (eqb b l) → z ≡ from_bool (eqb a l) → (1 + y - z ≡ cap_of_path a b l) × (1 + y - z ≤ 2)
+cap_is a b l y z ey ez =
+    let p = one_is b l y ey in
+    let q = one_is a l z ez in
+    (ap₂ (λ (i j : ℕ). 1 + i - j) p.0 q.0, omega (arith, p.1))
 
 pub not_zero : (b : ℕ) → not (eqb b 0) ≡ true → ¬ (b ≡ 0)
 not_zero b e = (is_not (eqb b 0) (is_eq b 0)).to e
@@ -96,11 +111,10 @@ list_set n a b l p m1 m2 m3 r Nil Start ep nil' start d1 d2 d3 d4 =
 
 -- ---- the atoms
 
-empty_small : (r : Fact) → (r.digits ≡ 1) × (r.cap ≡ 1) × (r.need ≡ 1) → Small r
-empty_small r e = record { digits = omega (arith, e.0); cap = omega (arith, e.1); need = omega (arith, e.2) }
-
-nothing_small : (r : Fact) → (r.digits ≡ 0) × (r.cap ≡ 0) × (r.need ≡ 0) → Small r
-nothing_small r e = record { digits = omega (arith, e.0); cap = omega (arith, e.1); need = omega (arith, e.2) }
+-- a fact's three numbers, where a test has chosen between two facts
+pub numbers_are : {x y : ℕ × (ℕ × (ℕ × Unit {0}))} → x ≡ y → (x.0 ≡ y.0) × (x.1.0 ≡ y.1.0) × (x.1.1.0 ≡ y.1.1.0)
+numbers_are e =
+    (ap (λ (x : ℕ × (ℕ × (ℕ × Unit {0}))). x.0) e, ap (λ (x : ℕ × (ℕ × (ℕ × Unit {0}))). x.1.0) e, ap (λ (x : ℕ × (ℕ × (ℕ × Unit {0}))). x.1.1.0) e)
 
 module _ (π : Profile) (v n : ℕ) (s : Map) (ℓ : ℕ) (F : Form) where
   -- a node that holds on no heap
@@ -121,7 +135,6 @@ module _ (n l a b : ℕ) (r : Fact) where
   unfolding May
   same_there e q =
       record {
-        small = empty_small r q;
         known = λ π v s x y ex ey. empty_known π v n s l (same x y) (May n s l (same x y)) r q (digits_same π v n s l x y) (λ d w. w.1) (caps_same π v n s l x y) (needs_same π v n s l x y);
       }
 
@@ -129,7 +142,6 @@ module _ (n l a b : ℕ) (r : Fact) where
   unfolding May
   same_elsewhere e q =
       record {
-        small = nothing_small r q;
         known = λ π v s x y ex ey. nothing_known π v n s l (same x y) (May n s l (same x y)) r (digits_same π v n s l x y) (λ d _ w. e (sym ex ∙ w.0 ∙ ey));
       }
 
@@ -137,7 +149,6 @@ module _ (n l a b : ℕ) (r : Fact) where
   unfolding May
   diff_there e q =
       record {
-        small = nothing_small r q;
         known = λ π v s x y ex ey. nothing_known π v n s l (diff x y) (May n s l (diff x y)) r (digits_diff π v n s l x y) (λ d _ w. w.0 (ex ∙ e ∙ sym ey));
       }
 
@@ -145,7 +156,6 @@ module _ (n l a b : ℕ) (r : Fact) where
   unfolding May
   diff_elsewhere e q =
       record {
-        small = empty_small r q;
         known = λ π v s x y ex ey. empty_known π v n s l (diff x y) (May n s l (diff x y)) r q (digits_diff π v n s l x y) (λ d w. w.1) (caps_diff π v n s l x y) (needs_diff π v n s l x y);
       }
 
@@ -153,7 +163,6 @@ module _ (n l a b : ℕ) (r : Fact) where
   unfolding May
   points_nil e q =
       record {
-        small = nothing_small r q;
         known = λ π v s x y ex ey. nothing_known π v n s l (pts x y) (May n s l (pts x y)) r (digits_pts π v n s l x y) (λ d _ w. w.0 (ex ∙ e));
       }
 
@@ -161,7 +170,6 @@ module _ (n l a b : ℕ) (r : Fact) where
   unfolding May
   list_same e q =
       record {
-        small = empty_small r q;
         known = λ π v s x y ex ey. empty_known π v n s l (ls x y) (May n s l (ls x y)) r q (digits_ls π v n s l x y) (λ d w. ⊎_elim (λ w. w.1) (λ w. absurd (w.0 (ex ∙ e ∙ sym ey))) w) (subst (Caps π v n (ls x y) s l) (flat (s x) (s y) (ex ∙ e ∙ sym ey)) (caps_ls π v n s l x y)) (subst (Needs π v n (ls x y) s l) (flat (s y) (s x) (sym (ex ∙ e ∙ sym ey))) (needs_ls π v n s l x y));
       }
     where
@@ -172,32 +180,29 @@ module _ (n l a b : ℕ) (r : Fact) where
   unfolding May
   list_nil f e q =
       record {
-        small = nothing_small r q;
         known = λ π v s x y ex ey. nothing_known π v n s l (ls x y) (May n s l (ls x y)) r (digits_ls π v n s l x y) (λ d _ w. ⊎_elim (λ w. f (sym ex ∙ w.0 ∙ ey)) (λ w. w.1 (ex ∙ e)) w);
       }
 
-module _ (n l a b m y z : ℕ) (cy : (y ≡ cap_of_path a b l) × (y ≤ 2)) (cz : (z ≡ cap_of_path b a l) × (z ≤ 2)) where
-  pub points_cell : PointsSet a b l m → AtomAs pts n l a b (record { digits = m; cap = y; need = z })
+module _ (n l a b : ℕ) (r : Fact) (cy : r.cap ≡ cap_of_path a b l) (cz : r.need ≡ cap_of_path b a l) where
+  pub points_cell : PointsSet a b l r.digits → AtomAs pts n l a b r
   unfolding May
   points_cell q =
       record {
-        small = record { digits = q.small; cap = omega (arith, cy.1); need = omega (arith, cz.1) };
         known = λ π v s x u ex eu. record {
-          digits = digits_more π v n s l (pts x u) (May n s l (pts x u)) (In m) (λ d _ w. q.has d (subst₂ (λ (i j : ℕ). PointsDigit i j l d) ex eu w.1)) (digits_pts π v n s l x u);
-          caps = subst (Caps π v n (pts x u) s l) (ap₂ (λ (i j : ℕ). cap_of_path i j l) ex eu ∙ sym cy.0) (caps_pts π v n s l x u);
-          needs = subst (Needs π v n (pts x u) s l) (ap₂ (λ (i j : ℕ). cap_of_path j i l) ex eu ∙ sym cz.0) (needs_pts π v n s l x u);
+          digits = digits_more π v n s l (pts x u) (May n s l (pts x u)) (In r.digits) (λ d _ w. q.has d (subst₂ (λ (i j : ℕ). PointsDigit i j l d) ex eu w.1)) (digits_pts π v n s l x u);
+          caps = subst (Caps π v n (pts x u) s l) (ap₂ (λ (i j : ℕ). cap_of_path i j l) ex eu ∙ sym cy) (caps_pts π v n s l x u);
+          needs = subst (Needs π v n (pts x u) s l) (ap₂ (λ (i j : ℕ). cap_of_path j i l) ex eu ∙ sym cz) (needs_pts π v n s l x u);
         };
       }
 
-  pub list_cells : ¬ (a ≡ b) → ListSet n a b l m → AtomAs ls n l a b (record { digits = m; cap = y; need = z })
+  pub list_cells : ¬ (a ≡ b) → ListSet n a b l r.digits → AtomAs ls n l a b r
   unfolding May
   list_cells f q =
       record {
-        small = record { digits = q.small; cap = omega (arith, cy.1); need = omega (arith, cz.1) };
         known = λ π v s x u ex eu. record {
-          digits = digits_more π v n s l (ls x u) (May n s l (ls x u)) (In m) (λ d _ w. ⊎_elim (λ w. absurd (f (sym ex ∙ w.0 ∙ eu))) (λ w. q.has d (subst₂ (λ (i j : ℕ). ListDigit n i j l d) ex eu w.2)) w) (digits_ls π v n s l x u);
-          caps = subst (Caps π v n (ls x u) s l) (ap₂ (λ (i j : ℕ). cap_of_path i j l) ex eu ∙ sym cy.0) (caps_ls π v n s l x u);
-          needs = subst (Needs π v n (ls x u) s l) (ap₂ (λ (i j : ℕ). cap_of_path j i l) ex eu ∙ sym cz.0) (needs_ls π v n s l x u);
+          digits = digits_more π v n s l (ls x u) (May n s l (ls x u)) (In r.digits) (λ d _ w. ⊎_elim (λ w. absurd (f (sym ex ∙ w.0 ∙ eu))) (λ w. q.has d (subst₂ (λ (i j : ℕ). ListDigit n i j l d) ex eu w.2)) w) (digits_ls π v n s l x u);
+          caps = subst (Caps π v n (ls x u) s l) (ap₂ (λ (i j : ℕ). cap_of_path i j l) ex eu ∙ sym cy) (caps_ls π v n s l x u);
+          needs = subst (Needs π v n (ls x u) s l) (ap₂ (λ (i j : ℕ). cap_of_path j i l) ex eu ∙ sym cz) (needs_ls π v n s l x u);
         };
       }
 
@@ -206,16 +211,16 @@ module _ (n l a b m y z : ℕ) (cy : (y ≡ cap_of_path a b l) × (y ≤ 2)) (cz
 module _ (o n l a b : ℕ) (r : Fact) where
   pub atom_1 : o ≡ 1 → AtomAs same n l a b r → AtomAs (atom_of o) n l a b r
   unfolding atom_of
-  atom_1 e q = rw e (record { small = q.small; known = λ π v s x y. q.known π v s x y })
+  atom_1 e q = rw e (record { known = λ π v s x y. q.known π v s x y })
 
   pub atom_2 : o ≡ 2 → AtomAs diff n l a b r → AtomAs (atom_of o) n l a b r
   unfolding atom_of
-  atom_2 e q = rw e (record { small = q.small; known = λ π v s x y. q.known π v s x y })
+  atom_2 e q = rw e (record { known = λ π v s x y. q.known π v s x y })
 
   pub atom_3 : o ≡ 3 → AtomAs pts n l a b r → AtomAs (atom_of o) n l a b r
   unfolding atom_of
-  atom_3 e q = rw e (record { small = q.small; known = λ π v s x y. q.known π v s x y })
+  atom_3 e q = rw e (record { known = λ π v s x y. q.known π v s x y })
 
   pub atom_4 : o ≡ 4 → AtomAs ls n l a b r → AtomAs (atom_of o) n l a b r
   unfolding atom_of
-  atom_4 e q = rw e (record { small = q.small; known = λ π v s x y. q.known π v s x y })
+  atom_4 e q = rw e (record { known = λ π v s x y. q.known π v s x y })

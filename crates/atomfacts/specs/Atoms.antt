@@ -4,12 +4,11 @@ use Rattle.logic.specs.declared.Profile.{Profile}
 use Rattle.logic.specs.Heap.{Map}
 use Rattle.logic.specs.Formula.{Form}
 use Rattle.skips.specs.Facts.{PointsDigit, ListDigit}
-use Rattle.facts.specs.declared.Fact.{Fact}
-use Rattle.facts.specs.Known.{In, Small, Known}
+use Rattle.facts.specs.declared.fact.Fact.{Fact}
+use Rattle.facts.specs.Known.{In, Known}
 
--- r is small, and holds for an atom over any two variables whose locations are a and b
+-- r holds for an atom over any two variables whose locations are a and b
 pub record AtomAs (atom : ℕ → ℕ → Form) (n ℓ a b : ℕ) (r : Fact) : Type 0 where
-  pub small : Small r
   pub known : (π : Profile) (v : ℕ) (s : Map) (x y : ℕ) → s x ≡ a → s y ≡ b → Known π v n (atom x y) s ℓ r
 
 -- r has the digits of m, but for d where Yes

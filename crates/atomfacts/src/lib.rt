@@ -12,49 +12,34 @@ ghost use Rattle.atomfacts.specs.Atoms.{AtomAs, Dropped, PointsSet, ListSet};
 use facts::{Fact, digit_bit};
 
 // The facts of a node that holds on the empty heap only, and of one that holds on none.
-fn empty() -> Fact
-    ensures { (result.digits ≡ 1) × (result.cap ≡ 1) × (result.need ≡ 1) }
-{
-    Fact {
-        digits: 1,
-        cap: 1,
-        need: 1,
-    }
-}
+const EMPTY: Fact = Fact {
+    digits: 1,
+    cap: 1,
+    need: 1,
+};
 
-fn nothing() -> Fact
-    ensures { (result.digits ≡ 0) × (result.cap ≡ 0) × (result.need ≡ 0) }
-{
-    Fact {
-        digits: 0,
-        cap: 0,
-        need: 0,
-    }
-}
+const NOTHING: Fact = Fact {
+    digits: 0,
+    cap: 0,
+    need: 0,
+};
 
 fn same_fact(a: u64, b: u64, n: u64, l: u64) -> Fact
     ensures { AtomAs same n l a b result }
 {
-    if a == b { empty() } else { nothing() }
+    if a == b { EMPTY } else { NOTHING }
 }
 
 fn diff_fact(a: u64, b: u64, n: u64, l: u64) -> Fact
     ensures { AtomAs diff n l a b result }
 {
-    if a == b { nothing() } else { empty() }
-}
-
-// 1 if x is l.
-fn one_if(x: u64, l: u64) -> u64
-    ensures { (result ≡ hit (suc x) l) × (result ≤ 1) }
-{
-    if x == l { 1 } else { 0 }
+    if a == b { NOTHING } else { EMPTY }
 }
 
 fn path_cap(a: u64, b: u64, l: u64) -> u64
     ensures { (result ≡ cap_of_path a b l) × (result ≤ 2) }
 {
-    1 + one_if(b, l) - one_if(a, l)
+    1 + u64::from(b == l) - u64::from(a == l)
 }
 
 // The set m, without digit d where that is asked.
@@ -77,7 +62,7 @@ fn points_fact(a: u64, b: u64, n: u64, l: u64) -> Fact
     ensures { AtomAs pts n l a b result }
 {
     if a == 0 {
-        return nothing();
+        return NOTHING;
     }
     Fact {
         digits: points_digits(a, b, l),
@@ -91,10 +76,7 @@ fn list_digits(a: u64, b: u64, n: u64, l: u64) -> u64
     requires { (a ≤ n) × (l ≤ n) × (n ≤ most) }
     ensures { ListSet n a b l result }
 {
-    if l == 0 {
-        return 1;
-    }
-    if l == b {
+    if l == 0 || l == b {
         return 1;
     }
     let all = digit_bit(n + 2) - 1;
@@ -109,10 +91,10 @@ fn list_fact(a: u64, b: u64, n: u64, l: u64) -> Fact
     ensures { AtomAs ls n l a b result }
 {
     if a == b {
-        return empty();
+        return EMPTY;
     }
     if a == 0 {
-        return nothing();
+        return NOTHING;
     }
     Fact {
         digits: list_digits(a, b, n, l),

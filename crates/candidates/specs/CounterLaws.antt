@@ -71,7 +71,7 @@ number_carried H S P Q ls e = go (dec_lt (S + 1) Q)
 
 -- ---- how many candidates there are fits a number
 
-power_low : (b k : ℕ) → b ≤ 10 → k ≤ most → b ^ k ≤ 10 ^ most
+pub power_low : (b k : ℕ) → b ≤ 10 → k ≤ most → b ^ k ≤ 10 ^ most
 power_low b k h l = le_trans (pow-le-pow_left h k) (pow-le-pow_right {n = 10} (omega arith) l)
 
 pub power_more : (b i k : ℕ) → b ≤ 10 → k ≤ most → i < k → b ^ i * b ≤ 10 ^ most

@@ -25,15 +25,13 @@ fn carry(w: u64, j: u64, k: u64, b: u64) -> u64
     ensures { Carries b k j w result }
 {
     let mut g = w;
-    let mut i: u64 = j;
-    while i < k {
+    for i in j..k {
         let l = i + 1;
         let d = cell(g, l);
-        g = g ^ placed(d, l);
+        g ^= placed(d, l);
         if d + 1 < b {
             return g | placed(d + 1, l);
         }
-        i = l;
     }
     g
 }
@@ -61,11 +59,9 @@ fn unpacked(x: u64, k: u64, b: u64) -> u64
 {
     let mut r: u64 = 0;
     let mut left = x;
-    let mut i: u64 = 0;
-    while i < k {
-        r = r | placed(left % b, i + 1);
-        left = left / b;
-        i += 1;
+    for i in 0..k {
+        r |= placed(left % b, i + 1);
+        left /= b;
     }
     r
 }
@@ -137,10 +133,8 @@ fn put(out: &mut [u8], w: u64, k: u64, x: u64)
     requires { (k ≤ most) × (k ≤ length out.old) × (x < 256) }
     ensures { out.new ≡ bytes_to k (plus x (cells w)) ++ drop k out.old }
 {
-    let mut i: u64 = 0;
-    while i < k {
+    for i in 0..k {
         out[i as usize] = ((cell(w, i + 1) + x) % 256) as u8;
-        i += 1;
     }
 }
 
@@ -148,13 +142,7 @@ fn power(b: u64, k: u64) -> u64
     requires { (b ≤ 10) × (k ≤ most) }
     ensures { (result ≡ b ^ k) × (result ≤ 10 ^ most) }
 {
-    let mut r: u64 = 1;
-    let mut i: u64 = 0;
-    while i < k {
-        r = r * b;
-        i += 1;
-    }
-    r
+    b.pow(k as u32)
 }
 
 // How many candidates there are.
@@ -171,9 +159,10 @@ fn weight_of(n: u64, j: u64) -> u64
     ensures { (result ≡ weight n j) × (1 ≤ result) × (result ≤ 10 ^ most * 10 ^ most) }
 {
     if j < n {
-        return power(n + 2, j);
+        power(n + 2, j)
+    } else {
+        power(n + 2, n) * power(n + 1, j - n)
     }
-    power(n + 2, n) * power(n + 1, j - n)
 }
 
 // The number of the first candidate after the block of candidate i that has the j lowest digits free.

@@ -1,6 +1,7 @@
 pub mod Cells
 pub mod Loops
 pub mod Bits
+pub mod Below
 pub mod Sets
 pub mod Subsets
 pub mod Packing

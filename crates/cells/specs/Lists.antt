@@ -1,5 +1,5 @@
 -- Laws of a list segment as code walks it. Assumes nothing.
-use Rattle.std.specs.Prelude.{◌≡◌, refl, Bool, false, ℕ, zero, suc, ◌-◌, ◌<◌, ◌≤◌}
+use Rattle.std.specs.Prelude.{◌≡◌, Bool, false, ℕ, zero, suc, ◌-◌, ◌<◌, ◌≤◌}
 use Rattle.std.proofs.Common.{sym, subst, ◌∙◌, not-suc-le-zero, sub-one, arith, eq-eqb, ne_eqb}
 use Rattle.std.specs.Int.Bits.{bit_xor}
 use Rattle.logic.specs.Heap.{Map, Heap, Empty}
@@ -57,15 +57,15 @@ module _ (n a b w : ℕ) (few : n ≤ most) (kw : Heap n (cells w)) where
         go zero e = absurd (z (e ∙ cells_nil g))
         go (suc y) e = omega arith
 
-    pub walk_on : (d r : ℕ) → 0 < k → ¬ (x ≡ b) → d ≡ cells g x → ¬ (d ≡ 0) → Placed d x r → Walk n a b w (k - 1) (d - 1) (bit_xor g r)
-    walk_on d r l e f z pr =
+    pub walk_on : (d r j : ℕ) → j ≡ k - 1 → 0 < k → ¬ (x ≡ b) → d ≡ cells g x → ¬ (d ≡ 0) → Placed d x r → Walk n a b w j (d - 1) (bit_xor g r)
+    walk_on d r j ej l e f z pr =
         let cut : cells (bit_xor g r) ≡ without x (cells g) = cut_is g x r (subst (λ (y : ℕ). Placed y x r) f pr) in
         let v = q.heap.low x in
         record {
-          same = rw (cut, f) (chain_step n k x b (cells g) l e (λ o. z (f ∙ o)) ∙ q.same);
+          same = rw (ej, cut, f) (chain_step n k x b (cells g) l e (λ o. z (f ∙ o)) ∙ q.same);
           low = omega arith;
           heap = rw cut (without_heap n x (cells g) q.heap);
         }
 
-  pub walk_start : a ≤ most → Walk n a b w n a w
-  walk_start l = record { same = refl; low = l; heap = kw }
+  pub walk_start : (k : ℕ) → k ≡ n → a ≤ most → Walk n a b w k a w
+  walk_start k e l = record { same = rw e; low = l; heap = kw }

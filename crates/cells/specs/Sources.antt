@@ -1,9 +1,9 @@
 -- Laws of the cells that may be added to a heap: the heap's values, its locations, and where a cell may be and point. Assumes
 -- nothing.
 use Rattle.std.specs.Prelude.{◌≡◌, refl, Bool, true, false, ◌⊎◌, ℕ, zero, suc, ◌+◌, ◌*◌, ◌-◌, ◌/◌, ◌%◌, ◌^◌, ◌<◌, ◌≤◌, eqb}
-use Rattle.std.proofs.Common.{sym, subst, ◌∙◌, ap, inl, inr, ⊎_elim, zero-le, not-suc-le-zero, lt_of_le_of_lt, arith}
+use Rattle.std.proofs.Common.{sym, subst, ◌∙◌, ap, inl, inr, ⊎_elim, not-suc-le-zero, lt_of_le_of_lt, arith}
 use Rattle.std.proofs.Math.Nat.{pow-le-pow_right, div-div-eq-div-mul}
-use Rattle.std.proofs.Math.Decide.{ℕ_discrete}
+use Rattle.std.proofs.Math.Decide.{dec_lt, ℕ_discrete}
 use Rattle.std.specs.Int.Bits.{bit_and, bit_or}
 use Rattle.std.proofs.lemmas.Nat.{and_le_r, or_lt}
 use Rattle.logic.specs.Heap.{Heap, Value, Locs}
@@ -13,87 +13,67 @@ use Rattle.logic.specs.Reflect.{Is}
 use Rattle.logic.proofs.Reflect.{false_true, is_iff, is_self, is_eq, is_and, is_or}
 use Rattle.logic.proofs.Agree.{is_allocated}
 use Rattle.cells.specs.Cells.{most, full, cells, Taken, Values, Met, Source, Target}
-use Rattle.cells.specs.Loops.{Noted, Noting, NoSource}
+use Rattle.cells.specs.Loops.{Noting, NoSource}
+use Rattle.cells.specs.Below.{some_more, some_less}
 use Rattle.cells.specs.Bits.{digit_is}
 use Rattle.cells.specs.Sets.{in_nil, in_and, in_or, in_nothing, in_pow}
-use Rattle.cells.specs.Packing.{cells_nil, cells_zero, first_field, next_field}
+use Rattle.cells.specs.Packing.{cells_nil}
 
 -- ---- the values
 
-pub noting_first : (w : ℕ) → Heap most (cells w) → Noting w w 0
-noting_first w k =
+pub noting_none : (w : ℕ) → Noting w 1 0
+noting_none w =
     record {
       small = omega arith;
-      low = k.low;
-      to = λ j. ⊎_elim (λ e. false_true (sym (in_nothing (suc (suc j))) ∙ e)) (λ q. q);
-      from = λ j q. inr q;
-    }
-
-pub noting_low : (w x v : ℕ) → Noting w x v → x % 256 ≤ suc most
-noting_low w x v q = subst (λ (d : ℕ). d ≤ suc most) (first_field x) (q.low 1)
-
-pub noting_next : (w x v b : ℕ) → b ≡ 2 ^ (x % 256) → Noting w x v → Noting w (x / 256) (bit_or v b)
-noting_next w x v b e q =
-    record {
-      small = or_lt (most + 2) v b q.small (subst (λ (y : ℕ). y < 2 ^ (most + 2)) (sym e) (lt_of_le_of_lt (pow-le-pow_right {n = 2} (omega arith) (noting_low w x v q)) (omega arith)));
-      low = low';
-      to = λ j o. q.to j (back j o);
-      from = λ j o. on j (q.from j o);
+      member = λ j. record {
+        to = λ t. false_true (sym (in_nothing (suc (suc j))) ∙ t);
+        from = λ q. absurd (none j q.0 q.1 q.2);
+      };
     }
   where
-    low' : (ℓ : ℕ) → cells (x / 256) ℓ ≤ suc most
-    low' zero = rw (cells_nil (x / 256)) zero-le
-    low' (suc i) = rw (next_field x i) (q.low (suc (suc i)))
+    none : (j ℓ : ℕ) → ℓ < 1 → ¬ Value (cells w) ℓ j
+    none j zero l e = absurd (omega (arith, cells_nil w, e))
+    none j (suc i) l e = absurd (omega arith)
 
-    -- the digit that is noted now
-    new : (j : ℕ) → Is (in_part (bit_or v b) (suc (suc j))) ((in_part v (suc (suc j)) ≡ true) ⊎ (suc j ≡ x % 256))
-    new j =
-        subst (λ (c : Bool). Is c ((in_part v (suc (suc j)) ≡ true) ⊎ (suc j ≡ x % 256)))
-        (sym (in_or v b (suc (suc j)) ∙ ap (λ (y : ℕ). orb (in_part v (suc (suc j))) (in_part y (suc (suc j)))) e ∙ ap (orb (in_part v (suc (suc j)))) (in_pow (x % 256) (suc j))))
-        (is_or (in_part v (suc (suc j))) (eqb (suc j) (x % 256)) (is_self (in_part v (suc (suc j)))) (is_eq (suc j) (x % 256)))
-
-    left : (j ℓ : ℕ) → cells (x / 256) ℓ ≡ suc j → (i : ℕ) × (cells x i ≡ suc j)
-    left j zero o = absurd (zero_suc j (sym (cells_nil (x / 256)) ∙ o))
-      where
-        zero_suc : (j : ℕ) → ¬ (0 ≡ suc j)
-        zero_suc j z = omega arith
-    left j (suc i) o = (suc (suc i), sym (next_field x i) ∙ o)
-
-    back : (j : ℕ) → Noted (x / 256) (bit_or v b) (suc j) → Noted x v (suc j)
-    back j o =
-        ⊎_elim (λ t. ⊎_elim inl (λ d. inr (1, first_field x ∙ sym d)) ((new j).to t)) (λ r. inr (left j r.0 r.1)) o
-
-    on : (j : ℕ) → Noted x v (suc j) → Noted (x / 256) (bit_or v b) (suc j)
-    on j o = ⊎_elim (λ t. inl ((new j).from (inl t))) (λ r. field j r.0 r.1) o
-      where
-        field : (j ℓ : ℕ) → cells x ℓ ≡ suc j → Noted (x / 256) (bit_or v b) (suc j)
-        field j zero z = absurd (zero_suc j (sym (cells_nil x) ∙ z))
-          where
-            zero_suc : (j : ℕ) → ¬ (0 ≡ suc j)
-            zero_suc j z = omega arith
-        field j (suc zero) z = inl ((new j).from (inr (sym z ∙ first_field x)))
-        field j (suc (suc i)) z = inr (suc i, next_field x i ∙ z)
+-- the next cell's digit d is noted in b
+pub noting_more : (w l v d b : ℕ) → Heap most (cells w) → d ≡ cells w l → b ≡ 2 ^ d → Noting w l v → Noting w (l + 1) (bit_or v b)
+noting_more w l v d b k ed e q =
+    record {
+      small = or_lt (most + 2) v b q.small (subst (λ (y : ℕ). y < 2 ^ (most + 2)) (sym e) (lt_of_le_of_lt (pow-le-pow_right {n = 2} (omega arith) low) (omega arith)));
+      member = λ j.
+          subst (λ (c : Bool). Is c ((ℓ : ℕ) × (ℓ < l + 1) × Value (cells w) ℓ j))
+          (sym (in_or v b (suc (suc j)) ∙ ap (λ (y : ℕ). orb (in_part v (suc (suc j))) (in_part y (suc (suc j)))) e ∙ ap (orb (in_part v (suc (suc j)))) (in_pow d (suc j))))
+          (is_iff (is_or (in_part v (suc (suc j))) (eqb (suc j) d) (q.member j) (is_eq (suc j) d))
+          (λ o. some_more (λ ℓ. Value (cells w) ℓ j) l (⊎_elim inl (λ e. inr (sym ed ∙ sym e)) o))
+          (λ o. ⊎_elim inl (λ e. inr (sym e ∙ sym ed)) (some_less (λ ℓ. Value (cells w) ℓ j) l o)));
+    }
+  where
+    low : d ≤ suc most
+    low = rw ed (k.low l)
 
 quarter_in : (v i : ℕ) → in_part (v / 4) (suc i) ≡ in_part v (suc (suc (suc i)))
 unfolding in_part digit
 quarter_in v i = ap (λ (y : ℕ). eqb (digit 2 y i) 1) (sym (div-div-eq-div-mul v 2 2))
 
-pub noting_last : (w x v : ℕ) → x ≡ 0 → Noting w x v → Values w (v / 4)
-noting_last w x v z q = record { small = quarter q.small; member = each }
+pub noting_all : (w l v : ℕ) → Heap most (cells w) → most < l → Noting w l v → Values w (v / 4)
+noting_all w l v k z q = record { small = quarter q.small; member = each }
   where
     quarter : v < 2 ^ (most + 2) → v / 4 < full
     quarter l = omega arith
 
-    none : (j ℓ : ℕ) → ¬ (cells x ℓ ≡ suc j)
-    none j ℓ e = let o : 0 ≡ suc j = sym (cells_zero ℓ) ∙ ap (λ (y : ℕ). cells y ℓ) (sym z) ∙ e in omega arith
+    -- a cell is at a location up to the most
+    below : (j ℓ : ℕ) → Value (cells w) ℓ j → ℓ < l
+    below j ℓ e = go (dec_lt ℓ l)
+      where
+        go : Dec (ℓ < l) → ℓ < l
+        go (yes h) = h
+        go (no h) = absurd (omega (arith, k.past ℓ (omega arith), e))
 
     each : (j : ℕ) → Is (in_part (v / 4) j) ((¬ (j ≡ 0)) × ((ℓ : ℕ) × Value (cells w) ℓ j))
     each zero = record { to = λ t. false_true (sym (in_nil (v / 4)) ∙ t); from = λ o. absurd (o.0 refl) }
     each (suc i) =
-        record {
-          to = λ t. (λ e. absurd (omega (arith, e)), q.to (suc i) (inl (sym (quarter_in v i) ∙ t)));
-          from = λ o. ⊎_elim (λ t. quarter_in v i ∙ t) (λ r. absurd (none (suc i) r.0 r.1)) (q.from (suc i) o.1);
-        }
+        subst (λ (b : Bool). Is b ((¬ (suc i ≡ 0)) × ((ℓ : ℕ) × Value (cells w) ℓ (suc i)))) (sym (quarter_in v i))
+        (is_iff (q.member (suc i)) (λ o. (λ e. absurd (omega (arith, e)), (o.0, o.2))) (λ o. (o.1.0, below (suc i) o.1.0 o.1.1, o.1.1)))
 
 -- ---- the locations that are met
 pub met_nothing : (u w : ℕ) → u ≡ 0 → Met u w 0

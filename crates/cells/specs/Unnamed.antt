@@ -1,6 +1,6 @@
 -- Laws of the sets of the locations that are not named, and that are barred, as code works them out. Assumes nothing.
-use Rattle.std.specs.Prelude.{◌≡◌, Bool, true, not, ◌⊎◌, ℕ, zero, suc, ◌+◌, ◌*◌, ◌-◌, ◌/◌, ◌%◌, ◌^◌, ◌<◌, ◌≤◌, leb}
-use Rattle.std.proofs.Common.{sym, subst, ◌∙◌, ap, inl, inr, ⊎_elim, zero-le, suc-le-suc, not-suc-le-zero, lt_of_lt_of_le, pow-suc, add-one, arith, le-leb}
+use Rattle.std.specs.Prelude.{◌≡◌, Bool, not, ℕ, zero, suc, ◌+◌, ◌*◌, ◌-◌, ◌/◌, ◌^◌, ◌<◌, ◌≤◌, leb}
+use Rattle.std.proofs.Common.{sym, subst, ◌∙◌, ap, inl, inr, ⊎_elim, zero-le, suc-le-suc, lt_of_lt_of_le, pow-suc, add-one, arith, le-leb}
 use Rattle.std.proofs.Math.Nat.{pow-le-pow_right, one-le-pow}
 use Rattle.std.proofs.Math.Decide.{dec_le}
 use Rattle.std.specs.Int.Bits.{bit_or, bit_xor}
@@ -10,11 +10,12 @@ use Rattle.logic.specs.declared.Profile.TheVariants.{Strong, Ordinary}
 use Rattle.logic.specs.Heap.{Map, Named}
 use Rattle.logic.specs.Tests.{pick, pickb, in_part}
 use Rattle.logic.specs.Reflect.{Is}
-use Rattle.logic.proofs.Reflect.{false_true, is_iff, is_self, is_eq, is_or, is_not}
+use Rattle.logic.proofs.Reflect.{false_true, is_iff, is_eq, is_or, is_not}
 use Rattle.cells.specs.Cells.{most, full, cells, Barred}
-use Rattle.cells.specs.Loops.{LocationOf, Naming}
+use Rattle.cells.specs.Loops.{Naming}
+use Rattle.cells.specs.Below.{some_more, some_less}
 use Rattle.cells.specs.Sets.{in_nil, in_or, in_xor, in_pow, in_nothing, in_past, in_all, in_half}
-use Rattle.cells.specs.Packing.{cells_nil, first_field, next_field}
+use Rattle.cells.specs.Packing.{cells_nil}
 
 pub bit_up_to_lt : (d n : ℕ) → d ≤ n → 2 ^ d < 2 ^ suc n
 bit_up_to_lt d n l = lt_of_lt_of_le (rw (pow-suc 2 d) (twice (one-le-pow d 2 (omega arith)))) (pow-le-pow_right {n = 2} (omega arith) {i = suc d} {j = suc n} (suc-le-suc l))
@@ -40,51 +41,36 @@ is_bit_up_to d n r j e = go (dec_le d n)
         subst (λ (b : Bool). Is b ((j ≡ d) × (j ≤ n))) (sym (ap (λ (x : ℕ). in_part x (suc j)) (e ∙ rw (lt-leb d n (omega arith))) ∙ in_nothing (suc j)))
         (record { to = λ t. false_true t; from = λ q. absurd (high l q) })
 
--- no variable is passed yet
-pub naming_first : (v n s : ℕ) → Naming v n s s v 0
-naming_first v n s =
+-- no variable is passed yet but nil
+pub naming_none : (n s : ℕ) → Naming n s 1 0
+naming_none n s =
     record {
       small = one-le-pow (suc n) 2 (omega arith);
-      to = λ j l. ⊎_elim (λ t. false_true (sym (in_nothing (suc (suc j))) ∙ t)) (λ q. (q.0, q.2, q.3));
-      from = λ j l q. inr (some j q.0 q.1 q.2);
+      member = λ j l. record {
+        to = λ t. false_true (sym (in_nothing (suc (suc j))) ∙ t);
+        from = λ q. absurd (none j q.0 q.1 q.2);
+      };
     }
   where
-    some : (j x : ℕ) → x ≤ v → cells s x ≡ suc j → LocationOf s v (suc j)
-    some j zero l e = absurd (omega (arith, cells_nil s))
-    some j (suc i) l e = (suc i, omega arith, l, e)
+    none : (j x : ℕ) → x < 1 → ¬ (cells s x ≡ suc j)
+    none j zero l e = absurd (omega (arith, cells_nil s, e))
+    none j (suc i) l e = absurd (omega arith)
 
-pub naming_next : (v n s x i m r : ℕ) → 0 < i → r ≡ pick (leb (x % 256) n) (2 ^ (x % 256)) 0 → r < 2 ^ suc n → Naming v n s x i m → Naming v n s (x / 256) (i - 1) (bit_or m r)
-naming_next v n s x i m r h e small q =
+-- the next variable's location d is noted in r
+pub naming_more : (n s x m d r : ℕ) → d ≡ cells s x → r ≡ pick (leb d n) (2 ^ d) 0 → r < 2 ^ suc n → Naming n s x m → Naming n s (x + 1) (bit_or m r)
+naming_more n s x m d r ed e small q =
     record {
       small = or_lt (suc n) m r q.small small;
-      to = λ j l o. q.to j l (back (suc j) o);
-      from = λ j l o. on (suc j) l (q.from j l o);
+      member = λ j l.
+          subst (λ (b : Bool). Is b ((y : ℕ) × (y < x + 1) × (cells s y ≡ suc j))) (sym (in_or m r (suc (suc j))))
+          (is_iff (is_or (in_part m (suc (suc j))) (in_part r (suc (suc j))) (q.member j l) (is_bit_up_to d n r (suc j) e))
+          (λ o. some_more (λ y. cells s y ≡ suc j) x (⊎_elim inl (λ p. inr (sym ed ∙ sym p.0)) o))
+          (λ o. ⊎_elim inl (λ p. inr (sym p ∙ sym ed, l)) (some_less (λ y. cells s y ≡ suc j) x o)));
     }
-  where
-    new : (j : ℕ) → Is (in_part (bit_or m r) (suc j)) ((in_part m (suc j) ≡ true) ⊎ ((j ≡ x % 256) × (j ≤ n)))
-    new j =
-        subst (λ (b : Bool). Is b ((in_part m (suc j) ≡ true) ⊎ ((j ≡ x % 256) × (j ≤ n)))) (sym (in_or m r (suc j)))
-        (is_or (in_part m (suc j)) (in_part r (suc j)) (is_self (in_part m (suc j))) (is_bit_up_to (x % 256) n r j e))
-
-    back : (j : ℕ) → (in_part (bit_or m r) (suc j) ≡ true) ⊎ LocationOf (x / 256) (i - 1) j → (in_part m (suc j) ≡ true) ⊎ LocationOf x i j
-    back j o =
-        ⊎_elim (λ t. ⊎_elim inl (λ d. inr (1, omega arith, omega arith, first_field x ∙ sym d.0)) ((new j).to t)) (λ y. inr (later y.0 y.1 y.2 y.3)) o
-      where
-        later : (y : ℕ) → 1 ≤ y → y ≤ i - 1 → cells (x / 256) y ≡ j → LocationOf x i j
-        later zero a b c = absurd (not-suc-le-zero a)
-        later (suc y) a b c = (suc (suc y), omega arith, omega arith, sym (next_field x y) ∙ c)
-
-    on : (j : ℕ) → j ≤ n → (in_part m (suc j) ≡ true) ⊎ LocationOf x i j → (in_part (bit_or m r) (suc j) ≡ true) ⊎ LocationOf (x / 256) (i - 1) j
-    on j l o = ⊎_elim (λ t. inl ((new j).from (inl t))) (λ y. field y.0 y.1 y.2 y.3) o
-      where
-        field : (y : ℕ) → 1 ≤ y → y ≤ i → cells x y ≡ j → (in_part (bit_or m r) (suc j) ≡ true) ⊎ LocationOf (x / 256) (i - 1) j
-        field zero a b c = absurd (not-suc-le-zero a)
-        field (suc zero) a b c = inl ((new j).from (inr (sym c ∙ first_field x, l)))
-        field (suc (suc y)) a b c = inr (suc y, omega arith, omega arith, next_field x y ∙ c)
 
 -- every variable is passed
-pub naming_last : (v n s x i m p : ℕ) → n ≤ most → i ≤ 0 → p ≡ 2 ^ (n + 1) → Naming v n s x i m → Barred Strong v n (cells s) (bit_xor (p - 1) m / 2)
-naming_last v n s x i m p few z e q = rw (e, add-one) (record { small = half; member = each })
+pub naming_all : (v n s x m p : ℕ) → n ≤ most → x ≡ v + 1 → p ≡ 2 ^ (n + 1) → Naming n s x m → Barred Strong v n (cells s) (bit_xor (p - 1) m / 2)
+naming_all v n s x m p few z e q = rw (e, add-one) (record { small = half; member = each })
   where
     all_bits : 2 ^ suc n - 1 < 2 ^ suc n
     all_bits = let l = one-le-pow (suc n) 2 (omega arith) in omega arith
@@ -95,12 +81,8 @@ naming_last v n s x i m p few z e q = rw (e, add-one) (record { small = half; me
         let k = pow-le-pow_right {n = 2} (omega arith) {i = suc n} {j = suc most} (omega arith) in
         omega arith
 
-    none : (j : ℕ) → ¬ LocationOf x i j
-    none j o = omega (arith, o.1, o.2)
-
     is_marked : (j : ℕ) → suc j ≤ n → Is (in_part m (suc (suc j))) (Named v (cells s) (suc j))
-    is_marked j l =
-        record { to = λ t. q.to j l (inl t); from = λ o. ⊎_elim (λ t. t) (λ y. absurd (none (suc j) y)) (q.from j l o) }
+    is_marked j l = is_iff (q.member j l) (λ o. (o.0, omega (arith, o.1), o.2)) (λ o. (o.0, omega (arith, o.1), o.2))
 
     each : (j : ℕ) → Is (in_part (bit_xor (2 ^ suc n - 1) m / 2) j) ((j ≤ n) × (¬ Named v (cells s) j))
     each zero =

@@ -84,10 +84,8 @@ pub fn table(u: u64, w: u64) -> u64
         return 0;
     }
     let mut t: u64 = 0;
-    let mut l: u64 = 1;
-    while l <= MOST {
-        t = t | placed(touched(u, l, cell(w, l)), l);
-        l += 1;
+    for l in 1..=MOST {
+        t |= placed(touched(u, l, cell(w, l)), l);
     }
     t
 }
@@ -117,11 +115,9 @@ fn values(w: u64) -> u64
     requires { Heap most (cells w) }
     ensures { Values w result }
 {
-    let mut x = w;
     let mut v: u64 = 0;
-    while x != 0 {
-        v = v | bit(x % 256);
-        x = x / 256;
+    for l in 1..=MOST {
+        v |= bit(cell(w, l));
     }
     v / 4
 }
@@ -141,10 +137,7 @@ fn is_source(w: u64, met: u64, l: u64) -> bool
     requires { (1 ≤ l) × (l ≤ most) }
     ensures { Is result (Source w met l) }
 {
-    if cell(w, l) != 0 {
-        return false;
-    }
-    (met >> (l - 1)) % 2 == 0
+    cell(w, l) == 0 && (met >> (l - 1)) % 2 == 0
 }
 
 // The last location up to `top` at which a cell may be added to w, or 0.
@@ -152,12 +145,10 @@ pub fn source_below(w: u64, met: u64, top: u64) -> u64
     requires { top ≤ most }
     ensures { SourceBelow w met top result }
 {
-    let mut l = top;
-    while 0 < l {
+    for l in (1..=top).rev() {
         if is_source(w, met, l) {
             return l;
         }
-        l -= 1;
     }
     0
 }
@@ -180,10 +171,7 @@ pub fn is_points(a: u64, b: u64, w: u64) -> bool
     requires { (a ≤ most) × (b ≤ most) }
     ensures { Is result (Points a b (cells w)) }
 {
-    if a == 0 {
-        return false;
-    }
-    w == placed(b + 1, a)
+    a != 0 && w == placed(b + 1, a)
 }
 
 // A list segment: each cell that is left behind is taken out, so no location is met twice. It has at most n links, since a heap
@@ -194,8 +182,7 @@ pub fn is_list(n: u64, a: u64, b: u64, w: u64) -> bool
 {
     let mut g = w;
     let mut x = a;
-    let mut k = n;
-    while 0 < k {
+    for _ in 0..n {
         if x == b {
             return is_empty(g);
         }
@@ -203,11 +190,10 @@ pub fn is_list(n: u64, a: u64, b: u64, w: u64) -> bool
         if d == 0 {
             return false;
         }
-        g = g ^ placed(d, x);
+        g ^= placed(d, x);
         x = d - 1;
-        k -= 1;
     }
-    if x == b { is_empty(g) } else { false }
+    x == b && is_empty(g)
 }
 
 // Bit d, where d is at most n.
@@ -223,13 +209,9 @@ fn unnamed(v: u64, n: u64, s: u64) -> u64
     requires { (v ≤ most) × (n ≤ most) }
     ensures { Barred Strong v n (cells s) result }
 {
-    let mut x = s;
     let mut named: u64 = 0;
-    let mut i = v;
-    while 0 < i {
-        named = named | bit_up_to(x % 256, n);
-        x = x / 256;
-        i -= 1;
+    for i in 0..v {
+        named |= bit_up_to(cell(s, i + 1), n);
     }
     ((bit(n + 1) - 1) ^ named) / 2
 }

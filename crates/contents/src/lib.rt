@@ -4,11 +4,12 @@
 ghost use Rattle.std.specs.Prelude.{◌≡◌, ◌+◌, ◌<◌};
 ghost use Rattle.logic.specs.Checks.{Answers};
 ghost use Rattle.logic.specs.CheckLaws.{Yes};
+ghost use Rattle.logic.specs.Reflect.{Is};
+ghost use Rattle.leaves.specs.Refusals.{outcome};
 ghost use Rattle.logic.specs.Book.{offset, size, stretch, contents_checks, Given, Body, Placed};
 
 use entries::{entries, word_at};
-use leaves::answer_of;
-use logic::Answer;
+use leaves::Refusal;
 
 // Where a body stands in the book.
 #[repr(C)]
@@ -18,18 +19,18 @@ pub struct Stretch {
     pub length: u64,
 }
 
-// Whether the contents are as stated: number 0, or the refusal of the first part that is not.
-pub fn check(book: &[u8]) -> Answer
-    ensures { Answers (contents_checks book.now) Yes result }
+// Whether the contents are as stated, or the refusal of the first part that is not.
+pub fn check(book: &[u8]) -> Result<(), Refusal>
+    ensures { Answers (contents_checks book.now) Yes (outcome result) }
 {
     if book.len() < 11 {
-        return answer_of(logic::BOOK_LENGTH, 0);
+        return Err(Refusal::BookLength);
     }
     if 206 < book.len() {
-        return answer_of(logic::BOOK_LENGTH, 0);
+        return Err(Refusal::BookLength);
     }
     if book[0] != 2 {
-        return answer_of(logic::CONTENTS, 0);
+        return Err(Refusal::Contents);
     }
     entries(book)
 }
@@ -46,24 +47,25 @@ fn row_of(book: &[u8], entry: u64) -> Stretch
     }
 }
 
+// Whether there is such a body: the contents are as stated, and the entry is 0 or 1.
+fn is_given(book: &[u8], entry: u64) -> bool
+    ensures { Is result (Given book.now entry) }
+{
+    entry <= 1 && check(book).is_ok()
+}
+
 // The stretch of an entry's body; start 0 and length 0 where there is none.
 pub fn placed(book: &[u8], entry: u64) -> Stretch
     ensures { Placed book.now entry result.start result.length }
 {
-    let a = check(book);
-    if a.number != logic::YES {
-        return Stretch {
+    if is_given(book, entry) {
+        row_of(book, entry)
+    } else {
+        Stretch {
             start: 0,
             length: 0,
-        };
+        }
     }
-    if 1 < entry {
-        return Stretch {
-            start: 0,
-            length: 0,
-        };
-    }
-    row_of(book, entry)
 }
 
 fn end_of(at: Stretch) -> usize
@@ -88,12 +90,9 @@ pub fn part(book: &[u8], entry: u64) -> &[u8]
 pub fn body(book: &[u8], entry: u64) -> &[u8]
     ensures { Body book.now entry result.now }
 {
-    let a = check(book);
-    if a.number != logic::YES {
-        return &book[0..0];
+    if is_given(book, entry) {
+        part(book, entry)
+    } else {
+        &book[..0]
     }
-    if 1 < entry {
-        return &book[0..0];
-    }
-    part(book, entry)
 }

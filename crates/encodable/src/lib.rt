@@ -7,19 +7,17 @@ ghost use Rattle.logic.specs.Table.{tree};
 ghost use Rattle.logic.specs.Book.{nodes, KnownTable};
 ghost use Rattle.rows.specs.Table.{Flat, Encodable};
 
-use leaves::wide;
-
 // Whether neither operator 9 nor 10 is in the tree of node k.
 fn flat(f: &[u8], k: usize) -> bool
     requires { (k < nodes f.now) × KnownTable f.now }
     ensures { Is result (Flat (tree f.now k)) }
 {
     let op = f[3 * k];
-    let x = wide(f[3 * k + 1]);
-    let y = wide(f[3 * k + 2]);
+    let x = usize::from(f[3 * k + 1]);
+    let y = usize::from(f[3 * k + 2]);
     match op {
         1..=4 => true,
-        5..=7 => { if flat(f, x) { flat(f, y) } else { false } }
+        5..=7 => flat(f, x) && flat(f, y),
         8 => flat(f, x),
         _ => false,
     }
@@ -31,18 +29,12 @@ pub fn encodable(f: &[u8], k: usize) -> bool
     ensures { Is result (Encodable (tree f.now k)) }
 {
     let op = f[3 * k];
-    let x = wide(f[3 * k + 1]);
-    let y = wide(f[3 * k + 2]);
+    let x = usize::from(f[3 * k + 1]);
+    let y = usize::from(f[3 * k + 2]);
     match op {
         1..=4 => true,
-        5..=6 | 9..=10 => {
-            if encodable(f, x) {
-                encodable(f, y)
-            } else {
-                false
-            }
-        }
-        7 => { if encodable(f, x) { flat(f, y) } else { false } }
+        5..=6 | 9..=10 => encodable(f, x) && encodable(f, y),
+        7 => encodable(f, x) && flat(f, y),
         8 => flat(f, x),
         _ => false,
     }

@@ -2,6 +2,7 @@
 #![tactic(auto)]
 
 ghost use Rattle.std.specs.Prelude.{◌≡◌, ◌+◌, ◌≤◌, ◌<◌, length};
+ghost use Rattle.leaves.specs.Refusals.{outcome};
 ghost use Rattle.logic.specs.Table.{tree};
 ghost use Rattle.logic.specs.Book.{most, root, KnownTable};
 ghost use Rattle.rows.specs.Row.{bytes_of};
@@ -12,14 +13,14 @@ ghost use Rattle.rowbytes.specs.Written.{put};
 ghost use Rattle.encoder.specs.Writable.{RoomTable, Writable};
 
 use book::open;
-use contents::part;
 use encodable::encodable;
 use head::{HEAD, put_head};
-use leaves::{answer_of, index, short};
+use leaves::{Refusal, answer_of};
 use logic::{Answer, Profile};
 use ownrows::put_long;
+use rowbytes::Writer;
 use rows::Next;
-use treerows::node;
+use treerows::Source;
 
 // How many rows APART and its AND are, where the profile asks for them.
 fn apart_rows(profile: Profile) -> u16
@@ -38,7 +39,7 @@ fn own_rows(profile: Profile, op: u8, n: u8) -> u16
 {
     match op {
         1..=3 => 3,
-        4 => short(n) + 1 + short(n),
+        4 => 2 * u16::from(n) + 1,
         5..=6 | 8 => 1,
         7 => 2,
         9 => 3 + apart_rows(profile),
@@ -47,41 +48,64 @@ fn own_rows(profile: Profile, op: u8, n: u8) -> u16
 }
 
 // How many rows the table has: those of the formula, LONG and its AND.
-fn row_count(profile: Profile, f: &[u8], n: u8) -> u16
-    requires { KnownTable f.now × (n < 255) }
-    ensures { result ≡ rows_in profile n (tree f.now (root f.now)) + 2 }
+fn row_count(source: &Source) -> u16
+    requires { KnownTable source.now.formula.now × (source.now.n < 255) }
+    ensures { result ≡ rows_in source.now.profile source.now.n (tree source.now.formula.now (root source.now.formula.now)) + 2 }
 {
-    let end = f.len() / 3;
+    let f = source.formula;
     let mut r: u16 = 0;
-    let mut k: usize = 0;
-    while k < end {
-        r += own_rows(profile, f[3 * k], n);
-        k += 1;
+    for k in 0..f.len() / 3 {
+        r += own_rows(source.profile, f[3 * k], source.n);
     }
     r + 2
 }
 
 // Writes the table: the rows of the formula, LONG and its AND.
-fn put_table(out: &mut [u8], profile: Profile, f: &[u8], n: u8, p: u8)
-    requires { KnownTable f.now × (n ≤ most) × RoomTable profile n (tree f.now (root f.now)) out.old }
-    ensures { out.new ≡ put 0 (bytes_of (table profile n p (tree f.now (root f.now)))) out.old }
+fn put_table(out: &mut [u8], source: &Source, p: u8)
+    requires { KnownTable source.now.formula.now × (source.now.n ≤ most) × RoomTable source.now.profile source.now.n (tree source.now.formula.now (root source.now.formula.now)) out.old }
+    ensures { out.new ≡ put 0 (bytes_of (table source.now.profile source.now.n p (tree source.now.formula.now (root source.now.formula.now)))) out.old }
 {
-    let st = Next {
+    let next = Next {
         row: 0,
         array: 1,
         set: 1,
     };
-    let t = node(out, profile, f, n, f.len() / 3 - 1, 0, 0, st);
-    let _u = put_long(out, t, p);
+    let mut w = Writer { out, next };
+    source.node(&mut w, source.formula.len() / 3 - 1, 0, 0);
+    put_long(&mut w, p);
 }
 
 // Writes the whole book, of that many rows, to the front of the output.
-fn write(out: &mut [u8], profile: Profile, f: &[u8], v: u8, n: u8, p: u8, rows: u16)
-    requires { Writable profile f.now n rows out.old }
-    ensures { out.new ≡ put 0 (out_book v n p (table profile n p (tree f.now (root f.now)))) out.old }
+fn write(out: &mut [u8], source: &Source, v: u8, p: u8, rows: u16)
+    requires { Writable source.now.profile source.now.formula.now source.now.n rows out.old }
+    ensures { out.new ≡ put 0 (out_book v source.now.n p (table source.now.profile source.now.n p (tree source.now.formula.now (root source.now.formula.now)))) out.old }
 {
-    put_head(out, 3, v, n, p, 10 * rows);
-    put_table(&mut out[HEAD..], profile, f, n, p);
+    put_head(out, 3, v, source.n, p, 10 * rows);
+    put_table(&mut out[HEAD..], source, p);
+}
+
+// Writes the encoding of a book in the profile to the front of the output, or is refused as the first part that fails is, and then
+// nothing changes.
+fn encoded(profile: Profile, book: &[u8], out: &mut [u8]) -> Result<(), Refusal>
+    ensures { Encodes profile book.now out.old (outcome result) out.new }
+{
+    let problem = open(book)?;
+    let formula = problem.formula;
+    if !encodable(formula, formula.len() / 3 - 1) {
+        return Err(Refusal::NotEncodable);
+    }
+    let n = problem.n as u8;
+    let source = Source {
+        profile,
+        formula,
+        n,
+    };
+    let rows = row_count(&source);
+    if out.len() < HEAD + 10 * usize::from(rows) {
+        return Err(Refusal::OutputLength);
+    }
+    write(out, &source, problem.v as u8, problem.p as u8, rows);
+    Ok(())
 }
 
 // The encoding of a book in the profile, at the front of the output: number 0, or the refusal of the first part that fails, and then nothing
@@ -89,20 +113,8 @@ fn write(out: &mut [u8], profile: Profile, f: &[u8], v: u8, n: u8, p: u8, rows: 
 pub fn encode(profile: Profile, book: &[u8], out: &mut [u8]) -> Answer
     ensures { Encodes profile book.now out.old result out.new }
 {
-    let opened = open(book);
-    let first = opened.answer;
-    if first.number != logic::YES {
-        return first;
+    match encoded(profile, book, out) {
+        Ok(()) => answer_of(logic::YES, 0),
+        Err(refusal) => refusal.into(),
     }
-    let f = part(book, 1);
-    if !encodable(f, f.len() / 3 - 1) {
-        return answer_of(logic::NOT_ENCODABLE, 0);
-    }
-    let n = opened.n as u8;
-    let rows = row_count(profile, f, n);
-    if out.len() < HEAD + 10 * index(rows) {
-        return answer_of(logic::OUTPUT_LENGTH, 0);
-    }
-    write(out, profile, f, opened.v as u8, n, opened.p as u8, rows);
-    answer_of(logic::YES, 0)
 }

@@ -1,94 +1,97 @@
 // Both judges on every candidate of a book, in the candidates' order.
-use leaves::wide;
 use logic::{MODEL, Profile};
-use notation::front;
-use second::World;
+use second::{Bounds, Model, Sets, World};
 
-// What a sweep has seen: how many candidates, on how many of them the judges agree, the number of the first that fits by the
-// second judge, plus 1 (0: none), with its stack and heap, and whether the model that is looked for fits by the second judge.
+// More than there are candidates within the second judge's bounds.
+pub const BUDGET: u64 = 1000000;
+
+// A candidate, by its number, the first being 1.
+#[derive(Clone, Copy)]
+struct Candidate {
+    number: u64,
+    model: Model,
+}
+
+// What a sweep has seen: how many candidates, on how many of them the judges agree, the first that fits by the second judge, and
+// whether the model that is looked for fits by the second judge; and the lowest declared variable that no atom names, since the
+// search refuses such a book.
 #[derive(Clone, Copy)]
 pub struct Swept {
     pub all: u64,
-    pub same: u64,
-    pub first: u64,
-    pub stack: u8,
-    pub heap: u8,
+    same: u64,
+    first: Option<Candidate>,
     pub fits: bool,
+    pub stray: Option<u8>,
 }
 
-// One candidate more, with the stack of w and this heap: both judges on it; `fits` is what the second says.
-fn compare(
-    mut t: Swept,
-    book: &[u8],
-    wanted: &[u8; MODEL],
-    bounds: [u8; 3],
-    w: World,
-    h: u8,
-    fits: bool,
-) -> Swept {
-    let model = second::model_of(bounds[0], bounds[1], w, h);
-    let size = wide(bounds[0]) + wide(bounds[1]);
-    let a = model::judge(Profile::Strong, book, front(&model, size));
-    t.all = std::num::wrapping_add_u64(t.all, 1);
-    if a.number == logic::NO && !fits || a.number == logic::YES && fits {
-        t.same = std::num::wrapping_add_u64(t.same, 1);
-    }
-    if fits && t.first == 0 {
-        t.first = t.all;
-        t.stack = w.stack;
-        t.heap = h;
-    }
-    if model == *wanted {
-        t.fits = fits;
-    }
-    t
+// The formula of a book that `notation` made: it stands behind the head and the bounds.
+fn formula(book: &[u8]) -> &[u8] {
+    book.get(14..).unwrap_or(&[])
 }
 
-fn sweep_stack(t: Swept, book: &[u8], wanted: &[u8; MODEL], bounds: [u8; 3], stack: u8) -> Swept {
-    if book.len() < 17 {
-        return t;
+impl Swept {
+    // Over all candidates of the book, if the second judge can judge them.
+    pub fn over(book: &[u8], bounds: Bounds, wanted: &[u8]) -> Option<Swept> {
+        if !bounds.can_judge() {
+            return None;
+        }
+        let mut swept = Swept {
+            all: 0,
+            same: 0,
+            first: None,
+            fits: false,
+            stray: second::stray(formula(book), bounds.variables),
+        };
+        for number in 0..World::STACKS {
+            if let Some(w) = World::new(bounds, number) {
+                swept.take_stack(book, w, wanted);
+            }
+        }
+        Some(swept)
     }
-    let f = &book[14..];
-    let root = f.len() / 3 - 1;
-    let w = second::world_of(bounds[1], bounds[2], stack);
-    let mut sets = [0u8; second::ROOM];
-    second::fill(&mut sets, f, w);
-    let heaps = w.heaps;
-    let mut next = t;
-    for h in 0..heaps {
-        next = compare(
-            next,
-            book,
-            wanted,
-            bounds,
-            w,
-            h,
-            second::fits(&sets, root, h, w),
-        );
-    }
-    next
-}
 
-// Over all candidates of the book, if the second judge can judge them. The numbers of the stacks are below 4^3, and have no
-// digit beyond the variables.
-pub fn sweep(book: &[u8], wanted: &[u8; MODEL], bounds: [u8; 3]) -> Swept {
-    let base = second::stack_base(bounds[1]);
-    let v = bounds[0];
-    let mut t = Swept {
-        all: 0,
-        same: 0,
-        first: 0,
-        stack: 0,
-        heap: 0,
-        fits: false,
-    };
-    if !second::can_judge(bounds) {
-        return t;
-    }
-    for stack in 0..64 {
-        if second::above(stack, base, v) == 0 {
-            t = sweep_stack(t, book, wanted, bounds, stack);
+    fn take_stack(&mut self, book: &[u8], w: World, wanted: &[u8]) {
+        let sets = Sets::of(formula(book), w);
+        for number in 0..w.heaps() {
+            let h = w.heap(number);
+            self.take(book, Model::new(w, h), sets.fits(h), wanted);
         }
     }
-    t
+
+    // One candidate more, both judges on it: `fits` is what the second says.
+    fn take(&mut self, book: &[u8], model: Model, fits: bool, wanted: &[u8]) {
+        let answer = model::judge(Profile::Strong, book, model.as_slice());
+        self.all = self.all.saturating_add(1);
+        if answer.number == logic::YES && fits || answer.number == logic::NO && !fits {
+            self.same = self.same.saturating_add(1);
+        }
+        if fits && self.first.is_none() {
+            self.first = Some(Candidate {
+                number: self.all,
+                model,
+            });
+        }
+        if model.as_slice() == wanted {
+            self.fits = fits;
+        }
+    }
+
+    // Whether the judges agree on every candidate, and the search answers what the second judge has found, to the last byte, or
+    // refuses the stray variable.
+    pub fn agrees(self, book: &[u8]) -> bool {
+        let mut out = [0u8; MODEL];
+        let answer = search::search(Profile::Strong, book, BUDGET, &mut out);
+        let searched = match (self.stray, self.first) {
+            (Some(x), _) => {
+                answer.number == logic::STRAY_VARIABLE && answer.place == u64::from(x)
+            }
+            (None, None) => answer.number == logic::NO && answer.tried == self.all,
+            (None, Some(first)) => {
+                answer.number == logic::YES
+                    && answer.tried == first.number
+                    && out == first.model.bytes
+            }
+        };
+        searched && self.same == self.all
+    }
 }

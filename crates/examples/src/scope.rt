@@ -1,8 +1,7 @@
 // Document 01's examples: P1's bytes, and those that document 01 wants proved once more, beside the second judge; and those of
 // document 02's path bound.
-use crate::report::{Tally, compared, run};
+use crate::report::Tally;
 use logic::Profile;
-use notation::front_of_page;
 use std::io;
 
 const P1_BOOK: [u8; 17] = [2, 1, 11, 0, 3, 0, 2, 14, 0, 3, 0, 1, 1, 1, 3, 1, 1];
@@ -13,31 +12,23 @@ const P1_ENCODING: [u8; 64] = [
     0, 0,
 ];
 
-pub fn bytes_of_p1(rt: &impl Print, t: Tally) -> io::Result<Tally> {
-    let book = P1_BOOK;
-    let mut page = [0u8; 256];
-    let size = notation::book([1, 1, 1], b"x>x", &mut page);
-    let with_book = compared(rt, t, b"01 P1, the book", front_of_page(&page, size), &book)?;
+pub fn bytes_of_p1(rt: &impl Print, tally: &mut Tally) -> io::Result<()> {
+    let book = notation::book(&[1, 1, 1], "x>x");
+    tally.compare(rt, "01 P1, the book", book.as_slice(), &P1_BOOK)?;
     let mut rows = [0u8; 64];
-    encoder::encode(Profile::Strong, &book, &mut rows);
-    let encoding = P1_ENCODING;
-    let with_rows = compared(rt, with_book, b"01 P1, the encoding", &rows, &encoding)?;
-    let mut printed = [0u8; 256];
-    let length = print::put_printed(&book, &mut printed);
-    compared(
+    encoder::encode(Profile::Strong, &P1_BOOK, &mut rows);
+    tally.compare(rt, "01 P1, the encoding", &rows, &P1_ENCODING)?;
+    let mut page = [0u8; 256];
+    let size = print::put_printed(&P1_BOOK, &mut page);
+    tally.compare(
         rt,
-        with_rows,
-        b"01 P1, the text of shape",
-        front_of_page(&printed, length),
+        "01 P1, the text of shape",
+        &page[..size],
         b"answer 0 place 0 tried 6\nstack 1\nheap 1\n",
     )
 }
 
-pub fn models(rt: &impl Print, t: Tally) -> io::Result<Tally> {
-    run(
-        rt,
-        t,
-        b"\
+pub const MODELS: &str = "\
 01 P1 | 1 1 1 | x>x | fits 1;1 | 1 1 1
 01 P1 | 1 1 1 | x>x | found
 01 P3 | 1 1 1 | x>0 | found
@@ -55,16 +46,10 @@ pub fn models(rt: &impl Print, t: Tally) -> io::Result<Tally> {
 01 P13 | 0 1 0 | (E & !(N @ N)) | none
 01 P14 | 2 2 2 | x>y | fits 12;2-
 01 P14 | 2 2 2 | y>x | not 12;2-
-",
-    )
-}
+";
 
 // Document 02's path bound: on the model, and not on lists, added heaps or wholes.
-pub fn paths(rt: &impl Print, t: Tally) -> io::Result<Tally> {
-    run(
-        rt,
-        t,
-        b"\
+pub const PATHS: &str = "\
 02 4, a list of two links | 1 2 1 | !x~0 | not 1;20
 02 4, a list of two links | 1 2 2 | !x~0 | not 1;20
 02 4, even where all is true | 1 2 1 | (x=x + !x=x) | not 1;20
@@ -79,6 +64,4 @@ pub fn paths(rt: &impl Print, t: Tally) -> io::Result<Tally> {
 02 4, the whole | 2 2 1 | (x>y @ x~0) | fits 12;-0 | 12 00 20 2 1 3
 02 4, three links | 3 3 2 | (x>y * (y>z * z>0)) | none
 02 4, three links | 3 3 3 | (x>y * (y>z * z>0)) | found
-",
-    )
-}
+";

@@ -5,16 +5,10 @@
 // describe, made as small as they allow. Two lines go against what 003 says, and name the definition that decides instead. The
 // search refuses a variable that no atom names; in the two lines of 3.3 that are about all models, y=y and z=z name them, which
 // hold on the empty heap and change no model.
-use crate::report::{Tally, run};
-use std::io;
 
 // In Example 2.5 the formula is to say that x is allocated. Where x is nil it holds on every heap, since no added heap fits
 // x>0 there; the line against it says so.
-pub fn chapter_2(rt: &impl Print, t: Tally) -> io::Result<Tally> {
-    run(
-        rt,
-        t,
-        b"\
+pub const CHAPTER_2: &str = "\
 003 Figure 2.1 | 5 6 6 | ((x~y * u~v) * z>y) | fits 14456;23446-
 003 Example 2.2, phi 1 | 3 3 3 | (x>y * x>z) | none
 003 Example 2.2, phi 2 | 3 3 3 | (x>y * z>y) | found
@@ -30,15 +24,9 @@ pub fn chapter_2(rt: &impl Print, t: Tally) -> io::Result<Tally> {
 003 2.3.3, the empty list | 2 2 2 | x~y | fits 11;--
 003 2.3.3, no cyclic list | 2 2 2 | x~y | not 11;1-
 003 Example 2.6 | 3 2 2 | ((x>y * y>z) & !x~z) | fits 121;21
-",
-    )
-}
+";
 
-pub fn chapter_3(rt: &impl Print, t: Tally) -> io::Result<Tally> {
-    run(
-        rt,
-        t,
-        b"\
+pub const CHAPTER_3: &str = "\
 003 Example 3.1, unsatisfiable | 2 3 3 | (x>y & x=y) | none
 003 Example 3.1, self-loop | 2 2 2 | (x>y * x=y) | fits 11;1-
 003 Example 3.2, a full heap | 2 2 2 | !x=y | fits 11;1-
@@ -74,15 +62,9 @@ pub fn chapter_3(rt: &impl Print, t: Tally) -> io::Result<Tally> {
 003 Example 3.8, n = 3 | 0 3 3 | ((N * N) * N) | fits 123
 003 Example 3.8, n = 4 | 0 3 3 | (((N * N) * N) * N) | none
 003 Example 3.8, n = 4 | 0 4 4 | (((N * N) * N) * N) | fits 1234
-",
-    )
-}
+";
 
-pub fn chapter_4(rt: &impl Print, t: Tally) -> io::Result<Tally> {
-    run(
-        rt,
-        t,
-        b"\
+pub const CHAPTER_4: &str = "\
 003 Figure 4.2, the model | 3 3 3 | (x~z * (x~y + z>y)) | fits 132;23-
 003 Figure 4.2, one footprint | 3 3 3 | (x~y + z>y) | fits 132;23-
 003 Figure 4.2, the other footprint | 3 3 3 | (x~y + z>y) | fits 132;-3-
@@ -96,17 +78,11 @@ pub fn chapter_4(rt: &impl Print, t: Tally) -> io::Result<Tally> {
 003 Example 4.1 | 3 2 2 | ((x>y * y>z) - x~z) | found
 003 Example 4.1, the model | 3 2 2 | ((x>y * y>z) - x~z) | fits 121;21
 003 Example 4.1, the first-order model | 3 2 2 | ((x>y * y>z) - x~z) | fits 121;21 | 121 21 3 1 2
-",
-    )
-}
+";
 
 // In 7.3.1 the formula not_alloc is to say that no variable is allocated. With two variables it does not, by Figure 3.2: x may
 // be allocated in the part that the formula for y gets. So that model is stated to fit.
-pub fn chapter_7(rt: &impl Print, t: Tally) -> io::Result<Tally> {
-    run(
-        rt,
-        t,
-        b"\
+pub const CHAPTER_7: &str = "\
 003 7.1, an entailment | 2 3 3 | (x~y - x~y) | none
 003 7.3.1, size at least 2 | 0 3 3 | (N * N) | fits ;12-
 003 7.3.1, size at least 2 | 0 3 3 | (N * N) | not ;1--
@@ -121,6 +97,4 @@ pub fn chapter_7(rt: &impl Print, t: Tally) -> io::Result<Tally> {
 003 7.3.2, at the empty heap | 2 2 2 | (x>y @ x>y) | fits 12;--
 003 7.3.2, not with the pointer | 2 2 2 | (x>y @ x>y) | not 12;2-
 003 7.3.2, at the empty heap only | 2 3 3 | ((x>y @ x>y) & N) | none
-",
-    )
-}
+";

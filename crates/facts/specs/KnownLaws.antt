@@ -1,9 +1,9 @@
 -- Facts of a node from those of its children, by bits. Assumes nothing.
-use Rattle.std.specs.Prelude.{◌≡◌, refl, ◌⊎◌, ℕ, suc, ◌+◌, ◌-◌, ◌*◌, ◌%◌, ◌^◌, ◌<◌, ◌≤◌}
+use Rattle.std.specs.Prelude.{◌≡◌, refl, ◌⊎◌, ℕ, suc, ◌+◌, ◌-◌, ◌*◌, ◌%◌, ◌^◌, ◌<◌, ◌≤◌, min, max}
 use Rattle.std.proofs.Common.{sym, subst, ◌∙◌, ap, inl, inr, ⊎_elim, one-mul, mod-eq_of_lt, lt_of_le_of_lt, arith, eqb-true, lt-ltb, le-ltb}
 use Rattle.std.proofs.Math.Nat.{pow-le-pow_right, one-le-pow}
+use Rattle.std.proofs.Math.Decide.{dec_lt}
 use Rattle.std.specs.Int.Bits.{bit_and, bit_or}
-use Rattle.std.proofs.lemmas.Nat.{and_le_l, or_lt}
 use Rattle.logic.specs.declared.Profile.{Profile}
 use Rattle.logic.specs.Heap.{Map}
 use Rattle.logic.specs.Formula.{Form}
@@ -13,12 +13,11 @@ use Rattle.logic.proofs.Reflect.{is_self, is_and, is_or, false_true}
 use Rattle.cells.specs.Cells.{most, word}
 use Rattle.cells.specs.Sets.{in_and, in_or, in_nothing, in_all}
 use Rattle.skips.specs.Counts.{smaller, larger}
-use Rattle.skips.proofs.CountLaws.{smaller_is, larger_is}
 use Rattle.skips.specs.Facts.{Hopeless, Caps, Needs, AnyDigit, SepDigit, SeptDigit}
 use Rattle.skips.proofs.DigitRules.{hopeless, digits_hopeless, digits_more, digits_any, digits_conj, digits_disj, digits_first, digits_second, digits_sep, digits_sept}
 use Rattle.skips.proofs.BoundRules.{caps_hopeless, needs_hopeless, caps_more, caps_any, caps_conj, caps_disj, caps_sep, caps_sept, caps_first, caps_second, needs_more, needs_any, needs_conj, needs_disj, needs_sep, needs_sept, needs_first, needs_second}
-use Rattle.facts.specs.declared.Fact.{Fact}
-use Rattle.facts.specs.Known.{In, Small, Known, JoinedAs, AnyAs, Together, Kept}
+use Rattle.facts.specs.declared.fact.Fact.{Fact}
+use Rattle.facts.specs.Known.{In, Known, JoinedAs, AnyAs, Together, Kept}
 
 -- ---- the smaller and the larger
 
@@ -37,6 +36,21 @@ larger_there a b l = rw (lt-ltb a b l)
 pub larger_elsewhere : (a b : ℕ) → b ≤ a → a ≡ larger a b
 unfolding larger
 larger_elsewhere a b l = rw (le-ltb a b l)
+
+-- they are std's
+pub min_smaller : (a b : ℕ) → min a b ≡ smaller a b
+min_smaller a b = go (dec_lt a b)
+  where
+    go : Dec (a < b) → min a b ≡ smaller a b
+    go (yes l) = omega (arith, smaller_there a b l)
+    go (no l) = omega (arith, smaller_elsewhere a b (omega arith))
+
+pub max_larger : (a b : ℕ) → max a b ≡ larger a b
+max_larger a b = go (dec_lt a b)
+  where
+    go : Dec (a < b) → max a b ≡ larger a b
+    go (yes l) = omega (arith, larger_there a b l)
+    go (no l) = omega (arith, larger_elsewhere a b (omega arith))
 
 -- ---- bits
 
@@ -84,12 +98,6 @@ module _ (π : Profile) (v n : ℕ) (F : Form) (s : Map) (ℓ : ℕ) (few : n �
       ⊎_elim (λ (e : r ≡ i + j - 1). subst (Needs π v n F s ℓ) (sym e) f)
       (λ (e : r ≡ 255). needs_more π v n s ℓ F 2 r (omega arith) (needs_any π v n s ℓ F)) q.1
 
-smaller_low : (a b : ℕ) → a ≤ 255 → b ≤ 255 → smaller a b ≤ 255
-smaller_low a b l m = ⊎_elim (λ (e : smaller a b ≡ a). omega arith) (λ (e : smaller a b ≡ b). omega arith) (smaller_is a b)
-
-larger_low : (a b : ℕ) → a ≤ 255 → b ≤ 255 → larger a b ≤ 255
-larger_low a b l m = ⊎_elim (λ (e : larger a b ≡ a). omega arith) (λ (e : larger a b ≡ b). omega arith) (larger_is a b)
-
 -- where nothing holds, every fact is right
 pub hopeless_known : (π : Profile) (v n : ℕ) (F : Form) (s : Map) (ℓ : ℕ) (r : Fact) → Hopeless π v n F s → Known π v n F s ℓ r
 hopeless_known π v n F s ℓ r none =
@@ -104,42 +112,57 @@ pub no_digit_hopeless : (π : Profile) (v n : ℕ) (F : Form) (s : Map) (ℓ : �
 no_digit_hopeless π v n F s ℓ r e q =
     hopeless π v n s ℓ F (In r.digits) q.digits (λ d _ p. in_none d (subst (λ (x : ℕ). In x d) e p))
 
-module _ (a b : Fact) (sa : Small a) (sb : Small b) where
-  pub joined_conj : (y z : ℕ) → y ≡ smaller a.cap b.cap → z ≡ smaller a.need b.need → JoinedAs conj a b (record { digits = bit_and a.digits b.digits; cap = y; need = z })
-  joined_conj y z ey ez =
+module _ (a b r : Fact) where
+  pub joined_conj : r.digits ≡ bit_and a.digits b.digits → r.cap ≡ smaller a.cap b.cap → r.need ≡ smaller a.need b.need → JoinedAs conj a b r
+  joined_conj ed ey ez =
       record {
-        small = record {
-          digits = omega (arith, and_le_l a.digits b.digits, sa.digits);
-          cap = omega (arith, smaller_low a.cap b.cap sa.cap sb.cap);
-          need = omega (arith, smaller_low a.need b.need sa.need sb.need);
-        };
         known = λ π v n A B s ℓ few p q. record {
-          digits = digits_more π v n s ℓ (conj A B) (λ d. In a.digits d × In b.digits d) (In (bit_and a.digits b.digits)) (λ d _ w. in_both a.digits b.digits d w.0 w.1) (digits_conj π v n s ℓ A B (In a.digits) (In b.digits) p.digits q.digits);
+          digits = digits_more π v n s ℓ (conj A B) (λ d. In a.digits d × In b.digits d) (In r.digits) (λ d _ w. subst (λ (x : ℕ). In x d) (sym ed) (in_both a.digits b.digits d w.0 w.1)) (digits_conj π v n s ℓ A B (In a.digits) (In b.digits) p.digits q.digits);
           caps = subst (Caps π v n (conj A B) s ℓ) (sym ey) (caps_conj π v n s ℓ A B a.cap b.cap p.caps q.caps);
           needs = subst (Needs π v n (conj A B) s ℓ) (sym ez) (needs_conj π v n s ℓ A B a.need b.need p.needs q.needs);
         };
       }
 
-  pub joined_disj : (y z : ℕ) → y ≡ larger a.cap b.cap → z ≡ larger a.need b.need → JoinedAs disj a b (record { digits = bit_or a.digits b.digits; cap = y; need = z })
-  joined_disj y z ey ez =
+  pub joined_disj : r.digits ≡ bit_or a.digits b.digits → r.cap ≡ larger a.cap b.cap → r.need ≡ larger a.need b.need → JoinedAs disj a b r
+  joined_disj ed ey ez =
       record {
-        small = record {
-          digits = or_lt 16 a.digits b.digits sa.digits sb.digits;
-          cap = omega (arith, larger_low a.cap b.cap sa.cap sb.cap);
-          need = omega (arith, larger_low a.need b.need sa.need sb.need);
-        };
         known = λ π v n A B s ℓ few p q. record {
-          digits = digits_more π v n s ℓ (disj A B) (λ d. In a.digits d ⊎ In b.digits d) (In (bit_or a.digits b.digits)) (λ d _ w. in_either a.digits b.digits d w) (digits_disj π v n s ℓ A B (In a.digits) (In b.digits) p.digits q.digits);
+          digits = digits_more π v n s ℓ (disj A B) (λ d. In a.digits d ⊎ In b.digits d) (In r.digits) (λ d _ w. subst (λ (x : ℕ). In x d) (sym ed) (in_either a.digits b.digits d w)) (digits_disj π v n s ℓ A B (In a.digits) (In b.digits) p.digits q.digits);
           caps = subst (Caps π v n (disj A B) s ℓ) (sym ey) (caps_disj π v n s ℓ A B a.cap b.cap p.caps q.caps);
           needs = subst (Needs π v n (disj A B) s ℓ) (sym ez) (needs_disj π v n s ℓ A B a.need b.need p.needs q.needs);
         };
       }
 
+  pub joined_sep : (x y : ℕ) → Kept a.digits b.digits x → Kept b.digits a.digits y → r.digits ≡ bit_or x y → Together a.cap b.cap r.cap → Together a.need b.need r.need → JoinedAs sep a b r
+  joined_sep x y kx ky ed tz tw =
+      record {
+        known = λ π v n A B s ℓ few p q. record {
+          digits = digits_more π v n s ℓ (sep A B) (SepDigit (In a.digits) (In b.digits)) (In r.digits) (λ d _ u. subst (λ (z : ℕ). In z d) (sym ed) (in_either x y d (⊎_elim (λ u. inl (kx.has d u.0 u.1)) (λ u. inr (ky.has d u.1 u.0)) u))) (digits_sep π v n s ℓ A B (In a.digits) (In b.digits) p.digits q.digits);
+          caps = caps_together π v n (sep A B) s ℓ few a.cap b.cap r.cap tz (caps_sep π v n s ℓ A B a.cap b.cap p.caps q.caps);
+          needs = needs_together π v n (sep A B) s ℓ few a.need b.need r.need tw (needs_sep π v n s ℓ A B a.need b.need p.needs q.needs);
+        };
+      }
+
+  pub joined_sept : (x y : ℕ) → Kept b.digits a.digits x → (bit_and a.digits b.digits ≡ 0) ⊎ (y ≡ 1) → r.digits ≡ bit_or x y → Together b.cap a.need r.cap → Together b.need a.cap r.need → JoinedAs sept a b r
+  joined_sept x y kx ey ed tz tw =
+      record {
+        known = λ π v n A B s ℓ few p q. record {
+          digits = digits_more π v n s ℓ (sept A B) (SeptDigit (In a.digits) (In b.digits)) (In r.digits) (λ d _ u. subst (λ (z : ℕ). In z d) (sym ed) (in_either x y d (⊎_elim (λ u. inl (kx.has d u.1 u.0)) (λ u. inr (met d u.0 u.1)) u))) (digits_sept π v n s ℓ A B (In a.digits) (In b.digits) p.digits q.digits);
+          caps = caps_together π v n (sept A B) s ℓ few b.cap a.need r.cap tz (caps_sept π v n s ℓ A B a.need b.cap p.needs q.caps);
+          needs = needs_together π v n (sept A B) s ℓ few b.need a.cap r.need tw (needs_sept π v n s ℓ A B a.cap b.need p.caps q.needs);
+        };
+      }
+    where
+      met : (d : ℕ) → d ≡ 0 → ((e : ℕ) × In a.digits e × In b.digits e) → In y d
+      met d z u =
+          ⊎_elim (λ (k : bit_and a.digits b.digits ≡ 0). absurd (in_none u.0 (subst (λ (m : ℕ). In m u.0) k (in_both a.digits b.digits u.0 u.1 u.2))))
+          (λ (k : y ≡ 1). subst (λ (m : ℕ). In y m) (sym z) (subst (λ (m : ℕ). In m 0) (sym k) in_one)) ey
+
+module _ (a b : Fact) where
   -- a cannot hold: b's facts are those of both
   pub joined_second : a.digits ≡ 0 → JoinedAs disj a b b
   joined_second e =
       record {
-        small = sb;
         known = λ π v n A B s ℓ few p q. record {
           digits = digits_second π v n s ℓ A B (In b.digits) (no_digit_hopeless π v n A s ℓ a e p) q.digits;
           caps = caps_second π v n s ℓ A B b.cap (no_digit_hopeless π v n A s ℓ a e p) q.caps;
@@ -150,7 +173,6 @@ module _ (a b : Fact) (sa : Small a) (sb : Small b) where
   pub joined_first : b.digits ≡ 0 → JoinedAs disj a b a
   joined_first e =
       record {
-        small = sa;
         known = λ π v n A B s ℓ few p q. record {
           digits = digits_first π v n s ℓ A B (In a.digits) (no_digit_hopeless π v n B s ℓ b e q) p.digits;
           caps = caps_first π v n s ℓ A B a.cap (no_digit_hopeless π v n B s ℓ b e q) p.caps;
@@ -158,42 +180,14 @@ module _ (a b : Fact) (sa : Small a) (sb : Small b) where
         };
       }
 
-  pub joined_sep : (x y z w : ℕ) → Kept a.digits b.digits x → Kept b.digits a.digits y → Together a.cap b.cap z → Together a.need b.need w → JoinedAs sep a b (record { digits = bit_or x y; cap = z; need = w })
-  joined_sep x y z w kx ky tz tw =
-      record {
-        small = record { digits = or_lt 16 x y (omega (arith, kx.small, sa.digits)) (omega (arith, ky.small, sb.digits)); cap = tz.0; need = tw.0 };
-        known = λ π v n A B s ℓ few p q. record {
-          digits = digits_more π v n s ℓ (sep A B) (SepDigit (In a.digits) (In b.digits)) (In (bit_or x y)) (λ d _ u. in_either x y d (⊎_elim (λ u. inl (kx.has d u.0 u.1)) (λ u. inr (ky.has d u.1 u.0)) u)) (digits_sep π v n s ℓ A B (In a.digits) (In b.digits) p.digits q.digits);
-          caps = caps_together π v n (sep A B) s ℓ few a.cap b.cap z tz (caps_sep π v n s ℓ A B a.cap b.cap p.caps q.caps);
-          needs = needs_together π v n (sep A B) s ℓ few a.need b.need w tw (needs_sep π v n s ℓ A B a.need b.need p.needs q.needs);
-        };
-      }
-
-  pub joined_sept : (x y z w : ℕ) → Kept b.digits a.digits x → y ≤ 1 → (bit_and a.digits b.digits ≡ 0) ⊎ (y ≡ 1) → Together b.cap a.need z → Together b.need a.cap w → JoinedAs sept a b (record { digits = bit_or x y; cap = z; need = w })
-  joined_sept x y z w kx ly ey tz tw =
-      record {
-        small = record { digits = or_lt 16 x y (omega (arith, kx.small, sb.digits)) (omega arith); cap = tz.0; need = tw.0 };
-        known = λ π v n A B s ℓ few p q. record {
-          digits = digits_more π v n s ℓ (sept A B) (SeptDigit (In a.digits) (In b.digits)) (In (bit_or x y)) (λ d _ u. in_either x y d (⊎_elim (λ u. inl (kx.has d u.1 u.0)) (λ u. inr (met d u.0 u.1)) u)) (digits_sept π v n s ℓ A B (In a.digits) (In b.digits) p.digits q.digits);
-          caps = caps_together π v n (sept A B) s ℓ few b.cap a.need z tz (caps_sept π v n s ℓ A B a.need b.cap p.needs q.caps);
-          needs = needs_together π v n (sept A B) s ℓ few b.need a.cap w tw (needs_sept π v n s ℓ A B a.cap b.need p.caps q.needs);
-        };
-      }
-    where
-      met : (d : ℕ) → d ≡ 0 → ((e : ℕ) × In a.digits e × In b.digits e) → In y d
-      met d z u =
-          ⊎_elim (λ (k : bit_and a.digits b.digits ≡ 0). absurd (in_none u.0 (subst (λ (m : ℕ). In m u.0) k (in_both a.digits b.digits u.0 u.1 u.2))))
-          (λ (k : y ≡ 1). subst (λ (m : ℕ). In y m) (sym z) (subst (λ (m : ℕ). In m 0) (sym k) in_one)) ey
-
 -- ---- any formula
 
-pub any_as : (n p : ℕ) → n ≤ most → (p ≡ 2 ^ (n + 2)) × (p < 2 ^ 16) → AnyAs n (record { digits = p - 1; cap = n + 1; need = 2 })
-any_as n p few q =
+pub any_as : (n p : ℕ) (r : Fact) → (p ≡ 2 ^ (n + 2)) × (p < 2 ^ 16) → r.digits ≡ p - 1 → r.cap ≡ n + 1 → r.need ≡ 2 → AnyAs n r
+any_as n p r q ed ec en =
     record {
-      small = record { digits = omega (arith, q.1); cap = omega arith; need = omega arith };
       known = λ π v F s ℓ. record {
-        digits = digits_more π v n s ℓ F (AnyDigit n ℓ) (In (p - 1)) (λ d l _. ap (λ (x : ℕ). in_part (x - 1) (suc d)) q.0 ∙ in_all (n + 2) d (omega arith)) (digits_any π v n s ℓ F);
-        caps = caps_any π v n s ℓ F;
-        needs = needs_any π v n s ℓ F;
+        digits = digits_more π v n s ℓ F (AnyDigit n ℓ) (In r.digits) (λ d l _. ap (λ (x : ℕ). in_part x (suc d)) (ed ∙ ap (λ (x : ℕ). x - 1) q.0) ∙ in_all (n + 2) d (omega arith)) (digits_any π v n s ℓ F);
+        caps = subst (Caps π v n F s ℓ) (sym ec) (caps_any π v n s ℓ F);
+        needs = subst (Needs π v n F s ℓ) (sym en) (needs_any π v n s ℓ F);
       };
     }

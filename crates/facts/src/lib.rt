@@ -2,46 +2,22 @@
 // on how many cells point there. Here those of a connective, from its children's, and of a negation.
 #![tactic(auto)]
 
+mod fact;
+
 ghost use Rattle.std.specs.Prelude.{◌≡◌, ◌⊎◌, ◌^◌, ◌<◌, ◌≤◌};
 ghost use Rattle.logic.specs.Formula.Form.{conj, disj, sep, sept};
 ghost use Rattle.logic.specs.Table.{join_of};
 ghost use Rattle.cells.specs.Cells.{most};
-ghost use Rattle.skips.specs.Counts.{smaller as smaller_of, larger as larger_of};
-ghost use Rattle.facts.specs.Known.{Small, Kept, JoinedAs, AnyAs, Together};
+ghost use Rattle.facts.specs.Known.{Kept, JoinedAs, AnyAs, Together};
 
-// Bit d of digits is set if digit d may stand; cap and need are the bounds of specs/Facts.antt in crate skips.
-#[derive(Clone, Copy)]
-pub struct Fact {
-    pub digits: u64,
-    pub cap: u64,
-    pub need: u64,
-}
-
-fn smaller(a: u64, b: u64) -> u64
-    ensures { result ≡ smaller_of a b }
-{
-    if a < b { a } else { b }
-}
-
-fn larger(a: u64, b: u64) -> u64
-    ensures { result ≡ larger_of a b }
-{
-    if a < b { b } else { a }
-}
+pub use fact::Fact;
 
 // The bound of two together; at most 255, which is no bound at all.
 fn together(a: u64, b: u64) -> u64
     requires { (a ≤ 255) × (b ≤ 255) }
     ensures { Together a b result }
 {
-    let sum = a + b;
-    if sum == 0 {
-        return 0;
-    }
-    if sum > 255 {
-        return 255;
-    }
-    sum - 1
+    (a + b).saturating_sub(1).min(255)
 }
 
 // m, if the set c has digit 0.
@@ -52,18 +28,16 @@ fn kept(m: u64, c: u64) -> u64
 }
 
 fn both(a: Fact, b: Fact) -> Fact
-    requires { Small a × Small b }
     ensures { JoinedAs conj a b result }
 {
     Fact {
         digits: a.digits & b.digits,
-        cap: smaller(a.cap, b.cap),
-        need: smaller(a.need, b.need),
+        cap: a.cap.min(b.cap),
+        need: a.need.min(b.need),
     }
 }
 
 fn either(a: Fact, b: Fact) -> Fact
-    requires { Small a × Small b }
     ensures { JoinedAs disj a b result }
 {
     if a.digits == 0 {
@@ -74,13 +48,12 @@ fn either(a: Fact, b: Fact) -> Fact
     }
     Fact {
         digits: a.digits | b.digits,
-        cap: larger(a.cap, b.cap),
-        need: larger(a.need, b.need),
+        cap: a.cap.max(b.cap),
+        need: a.need.max(b.need),
     }
 }
 
 fn parted(a: Fact, b: Fact) -> Fact
-    requires { Small a × Small b }
     ensures { JoinedAs sep a b result }
 {
     Fact {
@@ -93,11 +66,10 @@ fn parted(a: Fact, b: Fact) -> Fact
 fn none_left(m: u64) -> u64
     ensures { (result ≤ 1) × ((m ≡ 0) ⊎ (result ≡ 1)) }
 {
-    if m == 0 { 0 } else { 1 }
+    u64::from(m != 0)
 }
 
 fn left_of(a: Fact, b: Fact) -> Fact
-    requires { Small a × Small b }
     ensures { JoinedAs sept a b result }
 {
     Fact {
@@ -129,7 +101,7 @@ pub fn any_fact(n: u64) -> Fact
 
 // Operators 5, 6, 9 and 10, from the children's facts.
 pub fn join_fact(op: u8, a: Fact, b: Fact) -> Fact
-    requires { (5 ≤ op) × (op ≤ 10) × (¬ (op ≡ 7)) × (¬ (op ≡ 8)) × Small a × Small b }
+    requires { (5 ≤ op) × (op ≤ 10) × (¬ (op ≡ 7)) × (¬ (op ≡ 8)) }
     ensures { JoinedAs (join_of op) a b result }
 {
     match op {

@@ -10,13 +10,14 @@ use Rattle.logic.proofs.TruthHolds.{truth_holds}
 use Rattle.logic.specs.Reflect.{Is}
 use Rattle.logic.proofs.Reflect.{is_same, false_true, is_iff}
 use Rattle.cells.specs.Cells.{most}
-use Rattle.judge.specs.Setting.{vars_of, locs_of, profile_of, stack_of, Ready, truth_at}
+use Rattle.judge.specs.declared.Setting.{Setting}
+use Rattle.judge.specs.Setting.{stack_of, Ready, truth_at}
 use Rattle.logic.proofs.NodeLaws.{atom_operands, tree_atom}
 
-module _ (f b : List ℕ) (k : ℕ) (rd : Ready f b k) (l : op_of f k ≤ 4) where
+module _ (f : List ℕ) (b : Setting) (k : ℕ) (rd : Ready f b k) (l : op_of f k ≤ 4) where
   pub variables : (operand_of f k 0 ≤ most) × (operand_of f k 1 ≤ most)
   variables =
-      let q = atom_operands (vars_of b) f k (rd.sound k (omega arith)) l in
+      let q = atom_operands b.vars f k (rd.sound k (omega arith)) l in
       (omega (arith, q.0, rd.few_vars), omega (arith, q.1, rd.few_vars))
 
   -- the operands' locations are x and y
@@ -25,12 +26,12 @@ module _ (f b : List ℕ) (k : ℕ) (rd : Ready f b k) (l : op_of f k ≤ 4) whe
     locations =
         (omega (arith, rd.stack.low (operand_of f k 0), rd.few_locs), omega (arith, rd.stack.low (operand_of f k 1), rd.few_locs))
 
-    module _ (h : Map) (kh : Heap (locs_of b) h) (r : Bool) where
-      by_holds : Is r (Holds (profile_of b) (vars_of b) (locs_of b) (atom_of (op_of f k) (operand_of f k 0) (operand_of f k 1)) (stack_of b) h) → r ≡ truth_at f b k h
+    module _ (h : Map) (kh : Heap b.locs h) (r : Bool) where
+      by_holds : Is r (Holds b.profile b.vars b.locs (atom_of (op_of f k) (operand_of f k 0) (operand_of f k 1)) (stack_of b) h) → r ≡ truth_at f b k h
       by_holds q =
           is_same r (truth_at f b k h) q
-          (subst (λ (F : Form). Is (truth_at f b k h) (Holds (profile_of b) (vars_of b) (locs_of b) F (stack_of b) h)) (tree_atom (vars_of b) f (suc k) rd.sound k l)
-          (truth_holds (profile_of b) (vars_of b) (locs_of b) (stack_of b) rd.stack.low (tree f k) h kh))
+          (subst (λ (F : Form). Is (truth_at f b k h) (Holds b.profile b.vars b.locs F (stack_of b) h)) (tree_atom b.vars f (suc k) rd.sound k l)
+          (truth_holds b.profile b.vars b.locs (stack_of b) rd.stack.low (tree f k) h kh))
 
       pub same_there : op_of f k ≡ 1 → x ≡ y → Is r (Empty h) → r ≡ truth_at f b k h
       unfolding Holds atom_of

@@ -1,27 +1,33 @@
 -- The truth of a connective, from that of its children. Assumes nothing.
-use Rattle.std.specs.Prelude.{◌≡◌, Bool, true, false, not, List, ℕ, suc, ◌+◌, ◌^◌, ◌<◌, ◌≤◌}
+use Rattle.std.specs.Prelude.{◌≡◌, Bool, true, false, not, List, ℕ, zero, suc, ◌+◌, ◌^◌, ◌<◌, ◌≤◌}
 use Rattle.std.proofs.Common.{◌∙◌, ap, arith}
 use Rattle.logic.specs.Heap.{Map}
 use Rattle.logic.specs.Formula.{Form}
 use Rattle.logic.specs.Tests.{andb, orb, any, sep_at, sept_at}
 use Rattle.logic.specs.Truth.{truth}
 use Rattle.logic.specs.Table.{op_of, operand_of, join_of, join_from5, tree}
-use Rattle.judge.specs.Setting.{vars_of, locs_of, profile_of, stack_of, Ready, Joined, truth_of, truth_at, first_at, second_at}
+use Rattle.judge.specs.declared.Setting.{Setting}
+use Rattle.judge.specs.Setting.{stack_of, Ready, Joined, truth_of, truth_at, first_at, second_at}
 use Rattle.logic.proofs.NodeLaws.{child_operands, tree_join}
 
 -- a node's operator is 1 to 10
-pub operator_low : (f b : List ℕ) (k : ℕ) → Ready f b k → ¬ (op_of f k < 1)
+pub operator_low : (f : List ℕ) (b : Setting) (k : ℕ) → Ready f b k → ¬ (op_of f k < 1)
 operator_low f b k rd l = omega (arith, (rd.sound k (omega arith)).operator)
 
-pub operator_high : (f b : List ℕ) (k : ℕ) → Ready f b k → ¬ (11 ≤ op_of f k)
+pub operator_high : (f : List ℕ) (b : Setting) (k : ℕ) → Ready f b k → ¬ (11 ≤ op_of f k)
 operator_high f b k rd l = omega (arith, (rd.sound k (omega arith)).operator)
 
-module _ (f b : List ℕ) (k : ℕ) (jn : Joined f b k) where
+module _ (f : List ℕ) (b : Setting) (k : ℕ) (jn : Joined f b k) where
   pub lower_a : operand_of f k 0 < k
-  lower_a = (child_operands (vars_of b) f k (jn.ready.sound k (omega arith)) jn.operator).0
+  lower_a = (child_operands b.vars f k (jn.ready.sound k (omega arith)) jn.operator).0
 
   pub lower_b : operand_of f k 1 < k
-  lower_b = (child_operands (vars_of b) f k (jn.ready.sound k (omega arith)) jn.operator).1
+  lower_b = (child_operands b.vars f k (jn.ready.sound k (omega arith)) jn.operator).1
+
+  pub lower : (side : ℕ) → side < 2 → operand_of f k side < k
+  lower zero l = lower_a
+  lower (suc zero) l = lower_b
+  lower (suc (suc _)) l = absurd (omega (arith, l))
 
   pub ready_below : (x : ℕ) → x < k → Ready f b x
   ready_below x l =
@@ -39,7 +45,7 @@ module _ (f b : List ℕ) (k : ℕ) (jn : Joined f b k) where
   -- by operator
   module _ (h : Map) where
     joined : truth_at f b k h ≡ truth_of b (join_of (op_of f k) (tree f (operand_of f k 0)) (tree f (operand_of f k 1))) h
-    joined = ap (λ (F : Form). truth_of b F h) (tree_join (vars_of b) f (suc k) jn.ready.sound k (omega arith) jn.operator)
+    joined = ap (λ (F : Form). truth_of b F h) (tree_join b.vars f (suc k) jn.ready.sound k (omega arith) jn.operator)
 
     pub truth_5 : op_of f k ≡ 5 → truth_at f b k h ≡ andb (first_at f b k h) (second_at f b k h)
     unfolding truth join_of join_from5
@@ -57,12 +63,12 @@ module _ (f b : List ℕ) (k : ℕ) (jn : Joined f b k) where
     unfolding truth join_of join_from5
     truth_8 e = joined ∙ rw e
 
-    pub truth_9 : op_of f k ≡ 9 → truth_at f b k h ≡ any (2 ^ locs_of b) (sep_at (profile_of b) (vars_of b) (locs_of b) (stack_of b) h (first_at f b k) (second_at f b k))
+    pub truth_9 : op_of f k ≡ 9 → truth_at f b k h ≡ any (2 ^ b.locs) (sep_at b.profile b.vars b.locs (stack_of b) h (first_at f b k) (second_at f b k))
     unfolding truth join_of join_from5
     truth_9 e = joined ∙ rw e
 
     -- the operator is none of the others
-    pub truth_10 : ¬ (op_of f k ≡ 5) → ¬ (op_of f k ≡ 6) → ¬ (op_of f k ≡ 7) → ¬ (op_of f k ≡ 8) → ¬ (op_of f k ≡ 9) → truth_at f b k h ≡ any ((locs_of b + 2) ^ locs_of b) (sept_at (profile_of b) (vars_of b) (locs_of b) (stack_of b) h (first_at f b k) (second_at f b k))
+    pub truth_10 : ¬ (op_of f k ≡ 5) → ¬ (op_of f k ≡ 6) → ¬ (op_of f k ≡ 7) → ¬ (op_of f k ≡ 8) → ¬ (op_of f k ≡ 9) → truth_at f b k h ≡ any ((b.locs + 2) ^ b.locs) (sept_at b.profile b.vars b.locs (stack_of b) h (first_at f b k) (second_at f b k))
     unfolding truth join_of join_from5
     truth_10 n5 n6 n7 n8 n9 = let e : op_of f k ≡ 10 = omega (arith, (jn.ready.sound k (omega arith)).operator, jn.operator) in joined ∙ rw e
 

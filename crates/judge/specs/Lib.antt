@@ -1,4 +1,5 @@
 pub mod Setting
+pub mod Listing
 pub mod Atoms
 pub mod Joins
 pub mod Trial

@@ -1,7 +1,7 @@
 -- The trial of parts: subsets of the allocated set are tried upward, no part that could serve is passed over, and what is
 -- tested of each part is what the computed truth tests. Assumes nothing.
-use Rattle.std.specs.Prelude.{◌≡◌, refl, Bool, true, false, not, ◌⊎◌, ℕ, suc, ◌+◌, ◌-◌, ◌^◌, ◌<◌, ◌≤◌, ltb}
-use Rattle.std.proofs.Common.{sym, subst, ◌∙◌, ap, not-suc-le-zero, lt_of_le_of_lt, lt_of_lt_of_le, arith, lt-ltb, ltb-true}
+use Rattle.std.specs.Prelude.{◌≡◌, refl, Bool, true, false, not, ◌⊎◌, ℕ, suc, ◌+◌, ◌-◌, ◌^◌, ◌<◌, ◌≤◌, Option, Some, None, is_some}
+use Rattle.std.proofs.Common.{sym, subst, ◌∙◌, ap, not-suc-le-zero, lt_of_le_of_lt, lt_of_lt_of_le, arith}
 use Rattle.std.proofs.Math.Logic.{inl, inr, ⊎_elim}
 use Rattle.std.proofs.Math.Nat.{pow-le-pow_right}
 use Rattle.std.proofs.Math.Decide.{dec_lt, dec_le, ℕ_discrete}
@@ -23,17 +23,14 @@ use Rattle.judge.specs.Setting.{Chosen, Trying}
 use Rattle.judge.specs.Setting.Chosen.{lowest, nothing}
 
 -- a choice of a part says whether there is one
-pub chosen_any : (F : ℕ → Bool) (n r : ℕ) → n ≤ most → Chosen F (2 ^ n) r → ltb r full ≡ any (2 ^ n) F
-chosen_any F n r few q =
-    is_same (ltb r full) (any (2 ^ n) F) (go q) (is_any F (λ i. F i ≡ true) (2 ^ n) (λ i _. is_self (F i)))
+pub chosen_any : (F : ℕ → Bool) (n : ℕ) (r : Option ℕ) → Chosen F (2 ^ n) r → is_some r ≡ any (2 ^ n) F
+chosen_any F n r q =
+    is_same (is_some r) (any (2 ^ n) F) (go q) (is_any F (λ i. F i ≡ true) (2 ^ n) (λ i _. is_self (F i)))
   where
-    small : 2 ^ n ≤ full
-    small = pow-le-pow_right {n = 2} (omega arith) few
-
-    go : Chosen F (2 ^ n) r → Is (ltb r full) ((i : ℕ) × (i < 2 ^ n) × (F i ≡ true))
-    go (lowest l t f) = record { to = λ _. (r, l, t); from = λ _. lt-ltb r full (lt_of_lt_of_le l small) }
+    go : Chosen F (2 ^ n) r → Is (is_some r) ((i : ℕ) × (i < 2 ^ n) × (F i ≡ true))
+    go (lowest m e l t f) = record { to = λ _. (m, l, t); from = λ _. ap is_some e }
     go (nothing e f) =
-        record { to = λ t. absurd (omega (arith, ltb-true r full t)); from = λ q. false_true (sym (f q.0 q.1) ∙ q.2) }
+        record { to = λ t. false_true (sym (ap is_some e) ∙ t); from = λ q. false_true (sym (f q.0 q.1) ∙ q.2) }
 
 pub trying_first : (F : ℕ → Bool) (a : ℕ) → Trying F a 0
 trying_first F a = record { sub = and_zero_l a; failed = λ i l. absurd (not-suc-le-zero l) }
@@ -110,13 +107,13 @@ module _ (n w a : ℕ) (few : n ≤ most) (kw : Heap n (cells w)) (t : Taken w a
           below : {x : ℕ} → x ≤ a → x ≤ 2 ^ n
           below l = omega (arith, taken_small)
 
-      pub trying_none : m ≡ a → F m ≡ false → Chosen F (2 ^ n) full
+      pub trying_none : m ≡ a → F m ≡ false → Chosen F (2 ^ n) None
       trying_none e fm =
           nothing refl
           (up_to (λ i. i < 2 ^ n → F i ≡ false) m (λ i l _. q.failed i l) (λ _. fm) (λ i l k. passed i k (λ s. absurd (omega (arith, sub_le i a s)))))
 
-      pub trying_found : F m ≡ true → Chosen F (2 ^ n) m
-      trying_found fm = lowest (lt_of_le_of_lt (sub_le m a q.sub) taken_small) fm q.failed
+      pub trying_found : F m ≡ true → Chosen F (2 ^ n) (Some m)
+      trying_found fm = lowest m refl (lt_of_le_of_lt (sub_le m a q.sub) taken_small) fm q.failed
 
 -- ---- what is tested of part m, whose mask is e; t is the table, and r the test of strong disjointness
 module _ {π : Profile} (v n u : ℕ) (s : Map) (un : Barred π v n s u) (w t m e : ℕ) (kw : Heap n (cells w)) (k : Tabled u w t) (sp : Spread m e) where

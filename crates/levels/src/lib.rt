@@ -1,7 +1,7 @@
 // What a packed stack and a packed heap show of their blocks.
 #![tactic(auto)]
 
-ghost use Rattle.std.specs.Prelude.{◌≡◌, true, suc, ◌+◌, ◌*◌, ◌/◌, ◌^◌, ◌≤◌, ◌<◌, ltb};
+ghost use Rattle.std.specs.Prelude.{◌≡◌, true, suc, ◌+◌, ◌*◌, ◌/◌, ◌^◌, ◌≤◌, ◌<◌, ltb, IfSome};
 ghost use Rattle.skips.specs.Blocks.{most_outgoing};
 ghost use Rattle.cells.specs.Cells.{most, cells};
 ghost use Rattle.skips.specs.Counts.{hit, incoming, above};
@@ -11,22 +11,14 @@ ghost use Rattle.levels.specs.Levels.{Tops, Swapped, Worse, OutOfOrder};
 
 use cells::{cell, placed};
 
-fn larger(a: u64, b: u64) -> u64
-    ensures { (a ≤ result) × (b ≤ result) }
-{
-    if a < b { b } else { a }
-}
-
 // The greatest location of the variables above x.
 fn top_above(s: u64, v: u64, x: u64) -> u64
     requires { v ≤ most }
     ensures { Tops s v x result }
 {
     let mut top: u64 = 0;
-    let mut y = v;
-    while x < y {
-        top = larger(top, cell(s, y));
-        y -= 1;
+    for y in (x..v).rev() {
+        top = top.max(cell(s, y + 1));
     }
     top
 }
@@ -36,7 +28,7 @@ fn hits(d: u64, l: u64) -> u64
     requires { l ≤ most }
     ensures { (result ≡ hit d l) × (result ≤ 1) }
 {
-    if d == l + 1 { 1 } else { 0 }
+    u64::from(d == l + 1)
 }
 
 // How many of the cells above j, up to n, point to l.
@@ -45,10 +37,8 @@ fn pointing(w: u64, j: u64, n: u64, l: u64) -> u64
     ensures { (result ≡ incoming n (above (suc j) (cells w)) l) × (result ≤ n) }
 {
     let mut r: u64 = 0;
-    let mut i = j;
-    while i < n {
-        i += 1;
-        r += hits(cell(w, i), l);
+    for i in j..n {
+        r += hits(cell(w, i + 1), l);
     }
     r
 }
@@ -59,12 +49,12 @@ fn exchanged(a: u64, l: u64) -> u64
     ensures { result ≡ exchange a (suc a) l }
 {
     if l == a {
-        return a + 1;
+        a + 1
+    } else if l == a + 1 {
+        a
+    } else {
+        l
     }
-    if l == a + 1 {
-        return a;
-    }
-    l
 }
 
 // Digit d, where the values a and a + 1 are exchanged.
@@ -72,10 +62,7 @@ fn new_digit(a: u64, d: u64) -> u64
     requires { (a < most) × (d < 256) }
     ensures { (result ≡ renumbered_digit (exchange a (suc a)) d) × (result < 256) }
 {
-    if d == 0 {
-        return 0;
-    }
-    exchanged(a, d - 1) + 1
+    if d == 0 { 0 } else { exchanged(a, d - 1) + 1 }
 }
 
 // The heap with a and a + 1 exchanged.
@@ -84,12 +71,10 @@ fn swapped(w: u64, a: u64) -> u64
     ensures { Swapped a w result }
 {
     let mut r: u64 = 0;
-    let mut i: u64 = 0;
-    while i < cells::MOST {
+    for i in 0..cells::MOST {
         let l = i + 1;
         let d = new_digit(a, cell(w, exchanged(a, l)));
-        r = r | placed(d, l);
-        i = l;
+        r |= placed(d, l);
     }
     r
 }
@@ -116,10 +101,7 @@ pub fn worse(w: u64, j: u64, a: u64) -> bool
     ensures { result ≡ true → Worse a j w }
 {
     let r = known_from(a, j);
-    if r >= cells::MOST {
-        return false;
-    }
-    lower_from(swapped(w, a), w, r)
+    r < cells::MOST && lower_from(swapped(w, a), w, r)
 }
 
 // Whether variable x + 1 has a location over 1 + the greatest of the variables above.
@@ -128,25 +110,20 @@ fn out_of_order(s: u64, v: u64, x: u64) -> bool
     ensures { result ≡ true → OutOfOrder s v x }
 {
     let d = cell(s, x + 1);
-    if d == 0 {
-        return false;
-    }
-    top_above(s, v, x + 1) < d - 1
+    d != 0 && top_above(s, v, x + 1) < d - 1
 }
 
-// The highest variable whose location is over 1 + the greatest of the variables above, less 1; or v.
-pub fn out_of_order_from(s: u64, v: u64) -> u64
+// The highest variable whose location is over 1 + the greatest of the variables above, less 1.
+pub fn out_of_order_from(s: u64, v: u64) -> Option<u64>
     requires { v ≤ most }
-    ensures { result < v → OutOfOrder s v result }
+    ensures { IfSome result (λ x. (x < v) × OutOfOrder s v x) }
 {
-    let mut x = v;
-    while 0 < x {
-        x -= 1;
+    for x in (0..v).rev() {
         if out_of_order(s, v, x) {
-            return x;
+            return Some(x);
         }
     }
-    v
+    None
 }
 
 // The most that can stand at l where the cells above j are known.
@@ -154,11 +131,8 @@ fn out_most(w: u64, j: u64, l: u64) -> u64
     requires { l ≤ most }
     ensures { (result ≡ most_outgoing j (cells w) l) × (result ≤ 1) }
 {
-    if j < l {
-        if cell(w, l) == 0 { 0 } else { 1 }
-    } else {
-        if l == 0 { 0 } else { 1 }
-    }
+    let has_some = if j < l { cell(w, l) != 0 } else { l != 0 };
+    u64::from(has_some)
 }
 
 // Whether more cells above j point to l than may.

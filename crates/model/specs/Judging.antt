@@ -1,6 +1,6 @@
 -- From the judge's core to the judge's statement. Assumes nothing.
-use Rattle.std.specs.Prelude.{◌≡◌, Bool, true, false, List, [], ◌∷◌, ℕ, suc, ◌-◌, ◌/◌, ◌<◌, length, get_or}
-use Rattle.std.proofs.Common.{sym, subst, arith}
+use Rattle.std.specs.Prelude.{◌≡◌, Bool, true, false, List, ℕ, suc, ◌-◌, ◌/◌, ◌<◌, length, get_or, Ok}
+use Rattle.std.proofs.Common.{refl, inl, inr, sym, subst, arith}
 use Rattle.logic.specs.declared.Profile.{Profile}
 use Rattle.logic.specs.declared.Answer.{Answer}
 use Rattle.logic.specs.Checks.{Checks, ◌then◌, Passes, Answers}
@@ -8,6 +8,7 @@ use Rattle.logic.specs.CheckLaws.{Yes}
 use Rattle.logic.proofs.CheckLaws.{passes_of_yes, passes_then, answers_refused, answers_after, answers_other, answers_passed}
 use Rattle.logic.specs.Heap.{Stack, Heap}
 use Rattle.logic.specs.Reflect.{Is}
+use Rattle.logic.proofs.Reflect.{false_true}
 use Rattle.logic.specs.Formula.{Form}
 use Rattle.logic.specs.Table.{Sound, tree}
 use Rattle.logic.specs.Book.{nodes, root, book_checks, vars_of, locs_of, Reads, Accepted, Bodies}
@@ -15,15 +16,16 @@ use Rattle.logic.proofs.OpenLaws.{vars_low, locs_low, known}
 use Rattle.logic.specs.Model.{model_checks, Fits, FitsBook, Verdict, Judges}
 use Rattle.logic.proofs.ModelLaws.{model_stack, model_heap_is, model_refuses}
 use Rattle.cells.specs.Cells.{cells, Barred}
-use Rattle.judge.specs.Setting.{profile_from, Ready}
+use Rattle.judge.specs.Setting.{Ready}
+use Rattle.leaves.specs.Refusals.{told}
 use Rattle.packing.specs.Packing.{packed_from}
 use Rattle.packing.specs.PackingLaws.{packed_stack, packed_heap}
 use Rattle.packing.specs.SameTable.{same_tree, same_sound}
 use Rattle.model.specs.Judged.{Judged}
 
--- the setting of a packed model, where x is the profile's number, and what the core says in it
-module _ (π : Profile) (x : ℕ) (e : profile_from x ≡ π) (v n p : ℕ) (f t : List ℕ) (same : (i : ℕ) → get_or t i 0 ≡ get_or f i 0) (s w u : ℕ) (j : Judged v n f s w) (un : Barred π v n (cells s) u) where
-  pub ready : Ready t (v ∷ n ∷ p ∷ s ∷ u ∷ x ∷ []) (length f / 3 - 1)
+-- the setting of a packed model, and what the core says in it
+module _ (π : Profile) (v n p : ℕ) (f t : List ℕ) (same : (i : ℕ) → get_or t i 0 ≡ get_or f i 0) (s w u : ℕ) (j : Judged v n f s w) (un : Barred π v n (cells s) u) where
+  pub ready : Ready t (record { vars = v; locs = n; path = p; stack = s; barred = u; profile = π }) (length f / 3 - 1)
   ready =
       record {
         inside = omega (arith, j.table.some, j.table.few);
@@ -32,13 +34,16 @@ module _ (π : Profile) (x : ℕ) (e : profile_from x ≡ π) (v n p : ℕ) (f t
         few_locs = omega (arith, j.few_locs);
         listed = j.few_locs;
         stack = j.stack;
-        barred = subst (λ (ρ : Profile). Barred ρ v n (cells s) u) (sym e) un;
+        barred = un;
       }
 
-  pub core_fits : (r : Bool) → Is r (Fits (profile_from x) v n p (tree t (root f)) (cells s) (cells w)) → Is r (Fits π v n p (tree f (root f)) (cells s) (cells w))
-  core_fits r q =
-      subst (λ (F : Form). Is r (Fits π v n p F (cells s) (cells w))) (same_tree f t same (root f))
-      (subst (λ (ρ : Profile). Is r (Fits ρ v n p (tree t (root f)) (cells s) (cells w))) e q)
+  pub core_fits : (r : Bool) → Is r (Fits π v n p (tree t (root f)) (cells s) (cells w)) → Is r (Fits π v n p (tree f (root f)) (cells s) (cells w))
+  core_fits r q = subst (λ (F : Form). Is r (Fits π v n p F (cells s) (cells w))) (same_tree f t same (root f)) q
+
+-- what is told of a test is the verdict
+pub told_verdict : {P : Type 0} (r : Bool) → Is r P → Verdict P (told (Ok r))
+told_verdict true i = inl (i.to refl, refl)
+told_verdict false i = inr (λ p. false_true (i.from p), refl)
 
 -- ---- the judge's answer, from the answers of its steps
 

@@ -1,31 +1,33 @@
 -- Names are numbered as they first appear. Assumes nothing.
-use Rattle.std.specs.Prelude.{◌≡◌, refl, Bool, true, false, not, eqb, ltb, length, get_or, set, take, drop}
-use Rattle.std.proofs.Common.{sym, ◌∙◌, add-one, arith, length-set, drop_of_length-le, drop-cons, length-take-le, get_or-take, take-suc-set}
-use Rattle.std.proofs.Math.Path.{ap, subst}
+use Rattle.std.specs.Prelude.{◌≡◌, ◌==◌, refl, Bool, true, false, not, cond, Option, None, Some, Ok, Err, eqb, ltb, length, set, take, position as place}
+use Rattle.std.specs.List.{position_or_len}
+use Rattle.std.proofs.lemmas.List.Sums.{prefix_len-le-length}
+use Rattle.std.proofs.Common.{sym, ◌∙◌, add-one, arith, length-set, length-take-le, take-suc-set}
+use Rattle.std.proofs.Math.Path.{ap}
 use mathlib.Core.List.{List, [], ◌∷◌, ◌++◌, map}
 use Prim.Native.Nat.{ℕ, suc, ◌+◌, ◌≤◌, ◌<◌}
 use Rattle.std.proofs.lemmas.List.{length-map}
-use Rattle.std.proofs.Math.ListN.{get_or-map}
-use borrow.Author.Tests.{eqb-true, eq-eqb, ne_eqb, lt-ltb, le-ltb}
+use borrow.Author.Tests.{eqb-true, eq-eqb, lt-ltb, le-ltb, ltb-true, ltb-false}
 use Rattle.grammar.specs.Steps.{onward}
 use Rattle.grammar.proofs.Steps.{skip_arg}
-use Rattle.logic.specs.Numbers.{bad_text, many_names}
+use Rattle.logic.specs.Numbers.{many_names}
+use Rattle.leaves.specs.declared.Refusal.TheVariants.{BadText as bad_text, ManyNames as too_many}
 use Rattle.logic.specs.Book.{most}
 use Rattle.logic.specs.Tests.{andb}
 use Rattle.logic.proofs.Reflect.{false_true}
-use Rattle.grammar.specs.Phrase.{Term, nil_term, name_term, choose}
-use Rattle.grammar.specs.Grammar.{seen}
+use Rattle.grammar.specs.Phrase.{nil_term, name_term, choose}
 use Rattle.grammar.specs.Machine.{Frame, Spot, arg, termed, emits}
 use Rattle.grammar.specs.Places.{known, note}
 use Rattle.grammar.specs.Meaning.{position}
 use Rattle.grammar.proofs.NumberLaws.{known_place, position_new}
 use Rattle.grammar.specs.Outcome.{Outcome, outcome, refused}
 use Rattle.words.specs.Words.{Skipped}
-use Rattle.terms.specs.Letters.{letters_of, term_of}
+use Rattle.terms.specs.Letters.{letters_of}
 use Rattle.terms.specs.LetterLaws.{same_letters}
-use Rattle.terms.specs.declared.Found.TheVariants.{Term as Reads, Wrong}
 use Rattle.terms.specs.Terms.{last_of, TermIs}
-use Rattle.names.specs.Names.{Names, names, names_in, taken, held, Fine, NotedIs, OperandIs}
+use Rattle.words.specs.declared.BadText.{BadText}
+use Rattle.names.specs.declared.Names.{Names}
+use Rattle.names.specs.Names.{names, names_in, taken, held, Fine, NotedIs, OperandIs}
 
 -- ---- places
 
@@ -33,36 +35,40 @@ module _ (l : List ℕ) (k w : ℕ) where
   pub names_long : k ≤ length l → length (names_in l k) ≡ k
   names_long h = length-map (take k l) letters_of ∙ length-take-le k l h
 
-  -- one name further
-  place_at : (i : ℕ) → k ≤ length l → i < k → drop i (names_in l k) ≡ letters_of (get_or l i 0) ∷ drop (suc i) (names_in l k)
-  place_at i h m =
-      drop-cons (names_in l k) i (letters_of 0) (omega (arith, names_long h))
-      ∙ ap (λ (x : List ℕ). x ∷ drop (suc i) (names_in l k)) (get_or-map letters_of (take k l) i 0 ∙ ap letters_of (get_or-take k l i 0 m))
+-- the place of a name is that of the number that holds it
+place_is : (ls : List ℕ) (w : ℕ) → position (map letters_of ls) (letters_of w) ≡ position_or_len (λ l. l == w) ls
+unfolding position
+place_is [] w = refl
+place_is (l ∷ ls) w = rw (same_letters l w) (go (eqb l w) (place_is ls w))
+  where
+    go : (c : Bool) → position (map letters_of ls) (letters_of w) ≡ position_or_len (λ x. x == w) ls
+        → choose c 0 (suc (position (map letters_of ls) (letters_of w))) ≡ cond (not c) (1 + position_or_len (λ x. x == w) ls) 0
+    go true e = refl
+    go false e = omega (arith, e)
 
-  -- after i names that are others
-  abbrev pub Passed : ℕ → Type 0
-  Passed i = position (names_in l k) (letters_of w) ≡ i + position (drop i (names_in l k)) (letters_of w)
+pub place_found : (ls : List ℕ) (w i : ℕ) → place (λ l. l == w) ls ≡ Some i → (i < length ls) × (i ≡ position (map letters_of ls) (letters_of w))
+place_found ls w i e = go (ltb (position_or_len (λ l. l == w) ls) (length ls)) refl e
+  where
+    go : (c : Bool) → ltb (position_or_len (λ l. l == w) ls) (length ls) ≡ c → cond c (Some (position_or_len (λ l. l == w) ls)) None ≡ Some i
+        → (i < length ls) × (i ≡ position (map letters_of ls) (letters_of w))
+    go true h e =
+        let q : position_or_len (λ l. l == w) ls ≡ i = cc in
+        (omega (arith, q, ltb-true (position_or_len (λ l. l == w) ls) (length ls) h), omega (arith, q, place_is ls w))
+    go false h e = absurd (cc)
 
-  pub place_found : (i : ℕ) → k ≤ length l → i < k → get_or l i 0 ≡ w → Passed i → i ≡ position (names_in l k) (letters_of w)
-  unfolding position
-  place_found i h m e p =
-      let q : position (drop i (names_in l k)) (letters_of w) ≡ 0 = ap (λ (ns : List (List ℕ)). position ns (letters_of w)) (place_at i h m) ∙ rw (same_letters (get_or l i 0) w, eq-eqb (get_or l i 0) w e) in
-      omega (arith, p, q)
-
-  pub place_next : (i : ℕ) → k ≤ length l → i < k → ¬ (get_or l i 0 ≡ w) → Passed i → Passed (i + 1)
-  unfolding position
-  place_next i h m f p =
-      let q : position (drop i (names_in l k)) (letters_of w) ≡ suc (position (drop (suc i) (names_in l k)) (letters_of w)) =
-      ap (λ (ns : List (List ℕ)). position ns (letters_of w)) (place_at i h m) ∙ rw (same_letters (get_or l i 0) w, ne_eqb (get_or l i 0) w f) in
-      subst (λ (j : ℕ). position (names_in l k) (letters_of w) ≡ j + position (drop j (names_in l k)) (letters_of w)) (sym (add-one i)) (p ∙ omega (arith, q))
-
-  pub place_none : (i : ℕ) → k ≤ length l → i ≡ k → Passed i → i ≡ position (names_in l k) (letters_of w)
-  unfolding position
-  place_none i h e p =
-      let q : position (drop i (names_in l k)) (letters_of w) ≡ 0 = ap (λ (ns : List (List ℕ)). position ns (letters_of w)) (drop_of_length-le (names_in l k) {i = i} (omega (arith, names_long h))) in
-      omega (arith, p, q)
+pub place_none : (ls : List ℕ) (w : ℕ) → place (λ l. l == w) ls ≡ None → length ls ≡ position (map letters_of ls) (letters_of w)
+place_none ls w e = go (ltb (position_or_len (λ l. l == w) ls) (length ls)) refl e
+  where
+    go : (c : Bool) → ltb (position_or_len (λ l. l == w) ls) (length ls) ≡ c → cond c (Some (position_or_len (λ l. l == w) ls)) None ≡ None
+        → length ls ≡ position (map letters_of ls) (letters_of w)
+    go true h e = absurd (cc)
+    go false h e =
+        omega (arith, ltb-false (position_or_len (λ l. l == w) ls) (length ls) h, prefix_len-le-length (λ l. not (l == w)) ls, place_is ls w)
 
 -- ---- one more name
+
+some_is : {k v : ℕ} → Some k ≡ Some v → v ≡ k
+some_is e = cc
 
 module _ (n : Names) (w i : ℕ) (f : Fine n) (p : i ≡ position (held n) (letters_of w)) where
   long : length (held n) ≡ n.count
@@ -72,41 +78,41 @@ module _ (n : Names) (w i : ℕ) (f : Fine n) (p : i ≡ position (held n) (lett
   known_is c e = known_place (held n) (letters_of w) ∙ ap (λ (j : ℕ). ltb j (length (held n))) (sym p) ∙ ap (ltb i) long ∙ e
 
   -- it is one of them
-  pub noted_known : i < n.count → NotedIs n (letters_of w) (i + 1) n
+  pub noted_known : i < n.count → NotedIs n (letters_of w) (Some (i + 1)) n
   noted_known l =
       let k : known (held n) (letters_of w) ≡ true = known_is true (lt-ltb i n.count l) in
       record {
-        over = λ z. absurd (omega (arith, z));
+        over = λ e. absurd (cc);
         fine = f;
-        noted = λ z. rw k;
-        number = λ z. add-one i ∙ ap suc p;
-        under = λ z q. false_true (sym q.0 ∙ k);
+        noted = λ v e. rw k;
+        number = λ v e. some_is e ∙ add-one i ∙ ap suc p;
+        under = λ v e q. false_true (sym q.0 ∙ k);
       }
 
   -- it is one too many
-  pub noted_over : n.count ≤ i → most ≤ n.count → NotedIs n (letters_of w) 0 n
+  pub noted_over : n.count ≤ i → most ≤ n.count → NotedIs n (letters_of w) None n
   noted_over l m =
       record {
-        over = λ z. (known_is false (le-ltb i n.count l), omega (arith, long, f.few));
+        over = λ e. (known_is false (le-ltb i n.count l), omega (arith, long, f.few));
         fine = f;
-        noted = λ z. absurd (z refl);
-        number = λ z. absurd (z refl);
-        under = λ z. absurd (z refl);
+        noted = λ v e. absurd (cc);
+        number = λ v e. absurd (cc);
+        under = λ v e. absurd (cc);
       }
 
   -- it is the next
-  pub noted_new : n.count ≤ i → n.count < most → NotedIs n (letters_of w) (n.count + 1) (names (set n.letters n.count w) (n.count + 1))
+  pub noted_new : n.count ≤ i → n.count < most → NotedIs n (letters_of w) (Some (n.count + 1)) (names (set n.letters n.count w) (n.count + 1))
   noted_new l m =
       let k : known (held n) (letters_of w) ≡ false = known_is false (le-ltb i n.count l) in
       let grown : names_in (set n.letters n.count w) (n.count + 1) ≡ held n ++ (letters_of w ∷ []) =
       ap (names_in (set n.letters n.count w)) (add-one n.count)
       ∙ ap (map letters_of) (take-suc-set n.letters n.count w (omega (arith, f.long, m))) ∙ map_last (take n.count n.letters) in
       record {
-        over = λ z. absurd (omega (arith, z));
+        over = λ e. absurd (cc);
         fine = record { long = length-set n.letters n.count w ∙ f.long; few = omega (arith, m) };
-        noted = λ z. grown ∙ rw k;
-        number = λ z. add-one n.count ∙ ap suc (sym long ∙ sym (position_new (held n) (letters_of w) k) ∙ ap (λ (ns : List (List ℕ)). position ns (letters_of w)) (sym grown));
-        under = λ z q. omega (arith, q.1, long, m);
+        noted = λ v e. grown ∙ rw k;
+        number = λ v e. some_is e ∙ add-one n.count ∙ ap suc (sym long ∙ sym (position_new (held n) (letters_of w) k) ∙ ap (λ (ns : List (List ℕ)). position ns (letters_of w)) (sym grown));
+        under = λ v e q. omega (arith, q.1, long, m);
       }
     where
       map_last : (x : List ℕ) → map letters_of (x ++ (w ∷ [])) ≡ map letters_of x ++ (letters_of w ∷ [])
@@ -117,16 +123,16 @@ module _ (n : Names) (w i : ℕ) (f : Fine n) (p : i ≡ position (held n) (lett
 
 module _ (s : List ℕ) (last : Bool) (i j : ℕ) (n : Names) (k : Skipped s i j) where
   -- no term stands at j
-  pub operand_wrong : (p v c : ℕ) (m : Names) → TermIs s last j (Wrong p) → OperandIs s last i n (taken bad_text p v c) m
+  pub operand_wrong : (p : BadText) (m : Names) → TermIs s last j (Err p) → OperandIs s last i n (taken (Err (bad_text p.at))) m
   unfolding outcome
-  operand_wrong p v c m q =
+  operand_wrong p m q =
       record {
         took = λ z. absurd (omega (arith, z));
         refuses = λ _ d t h σ. ap (outcome (held n) d) (skip_arg s t σ k.blanks ∙ q t h σ);
       }
 
   -- `sep.nil`
-  pub operand_nil : (e : ℕ) → TermIs s last j (Reads e 0) → Fine n → OperandIs s last i n (taken 0 e 0 n.count) n
+  pub operand_nil : (e : ℕ) → TermIs s last j (Ok (e, None)) → Fine n → OperandIs s last i n (taken (Ok (e, 0))) n
   unfolding emits
   operand_nil e q f =
       record {
@@ -143,19 +149,18 @@ module _ (s : List ℕ) (last : Bool) (i j : ℕ) (n : Names) (k : Skipped s i j
         refuses = λ y. absurd (y refl);
       }
 
-  module _ (e w : ℕ) (l : ¬ (w ≡ 0)) (q : TermIs s last j (Reads e w)) (v : ℕ) (m : Names) (g : NotedIs n (letters_of w) v m) where
+  module _ (e w : ℕ) (q : TermIs s last j (Ok (e, Some w))) (r : Option ℕ) (m : Names) (g : NotedIs n (letters_of w) r m) where
     -- the name is looked up as it ends
     named_there : (d : ℕ) (t : Spot) → last_of t ≡ last → (σ : List Frame)
         → outcome (held n) d (onward s (arg t σ) i)
         ≡ choose (andb (not (known (held n) (letters_of w))) (eqb (length (held n)) most)) (refused many_names j) (outcome (note (held n) (letters_of w)) d (onward s (termed (name_term (letters_of w)) t σ) e))
     unfolding outcome emits
     named_there d t h σ =
-        let is : term_of w ≡ name_term (letters_of w) = rw (ne_eqb w 0 l) in
-        ap (outcome (held n) d) (skip_arg s t σ k.blanks ∙ q.2 t h σ ∙ ap (λ (x : Term). emits (seen x j e) (onward s (termed x t σ) e)) is)
+        ap (outcome (held n) d) (skip_arg s t σ k.blanks ∙ q.2 t h σ)
 
     -- a name that is one too many
-    pub operand_over : (u c : ℕ) (b : Names) → v ≡ 0 → OperandIs s last i n (taken many_names j u c) b
-    operand_over u c b z =
+    pub operand_over : (b : Names) → r ≡ None → OperandIs s last i n (taken (Err (too_many j))) b
+    operand_over b z =
         let o = g.over z in
         record {
           took = λ y. absurd (omega (arith, y));
@@ -163,8 +168,8 @@ module _ (s : List ℕ) (last : Bool) (i j : ℕ) (n : Names) (k : Skipped s i j
         }
 
     -- a name
-    pub operand_name : (c : ℕ) → ¬ (v ≡ 0) → OperandIs s last i n (taken 0 e v c) m
-    operand_name c z =
+    pub operand_name : (v : ℕ) → r ≡ Some v → OperandIs s last i n (taken (Ok (e, v))) m
+    operand_name v z =
         record {
           took = λ _.
               record {
@@ -172,16 +177,16 @@ module _ (s : List ℕ) (last : Bool) (i j : ℕ) (n : Names) (k : Skipped s i j
                 from = omega (arith, k.from, q.0);
                 inside = q.1;
                 fine = g.fine;
-                noted = g.noted z;
-                number = g.number z;
+                noted = g.noted v z;
+                number = g.number v z;
                 goes = λ d t h σ.
                     named_there d t h σ ∙ under (known (held n) (letters_of w)) refl (eqb (length (held n)) most) refl (outcome (note (held n) (letters_of w)) d (onward s (termed (name_term (letters_of w)) t σ) e))
-                    ∙ ap (λ (ns : List (List ℕ)). outcome ns d (onward s (termed (name_term (letters_of w)) t σ) e)) (sym (g.noted z));
+                    ∙ ap (λ (ns : List (List ℕ)). outcome ns d (onward s (termed (name_term (letters_of w)) t σ) e)) (sym (g.noted v z));
               };
           refuses = λ y. absurd (y refl);
         }
       where
         under : (p : Bool) → known (held n) (letters_of w) ≡ p → (u : Bool) → eqb (length (held n)) most ≡ u → (o : Outcome) → choose (andb (not p) u) (refused many_names j) o ≡ o
-        under false d true u o = absurd (g.under z (d, eqb-true (length (held n)) most u))
+        under false d true u o = absurd (g.under v z (d, eqb-true (length (held n)) most u))
         under true d u h o = refl
         under false d false u o = refl

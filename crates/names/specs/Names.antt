@@ -1,7 +1,10 @@
 -- The names so far, as the code holds them, and what numbering one more gives. Assumes nothing: these are definitions.
-use Rattle.std.specs.Prelude.{◌≡◌, Bool, false, List, map, ℕ, suc, ◌≤◌, ◌<◌, length, take}
+use Rattle.std.specs.Prelude.{◌≡◌, Bool, false, Option, None, Some, Result, Ok, Err, List, map, ℕ, suc, ◌≤◌, ◌<◌, length, take}
 use Rattle.grammar.specs.Steps.{onward}
+use Rattle.logic.specs.Numbers.{yes_number}
 use Rattle.logic.specs.Book.{most}
+use Rattle.leaves.specs.declared.Refusal.{Refusal}
+use Rattle.leaves.specs.Refusals.{refused as told}
 use Rattle.grammar.specs.Phrase.{Term}
 use Rattle.grammar.specs.Machine.{Frame, Spot, arg, termed}
 use Rattle.grammar.specs.Places.{known, note}
@@ -9,13 +12,9 @@ use Rattle.grammar.specs.Meaning.{note_term, position, number_of}
 use Rattle.grammar.specs.Outcome.{outcome, refused}
 use Rattle.terms.specs.Letters.{letters_of}
 use Rattle.terms.specs.Terms.{last_of}
-use Rattle.names.specs.declared.Taken.{Taken}
+use Rattle.names.specs.declared.Names.{Names}
 
 -- the letters of each name, and how many names there are
-pub record Names : Type 0 where
-  pub letters : List ℕ
-  pub count : ℕ
-
 abbrev pub names : List ℕ → ℕ → Names
 names l k = record { letters = l; count = k }
 
@@ -31,16 +30,23 @@ pub record Fine (n : Names) : Type 0 where
   pub long : length n.letters ≡ most
   pub few : n.count ≤ most
 
--- the name x, after the names n: its number v, and the names m with it; or v is 0, and it is one too many
-pub record NotedIs (n : Names) (x : List ℕ) (v : ℕ) (m : Names) : Type 0 where
-  pub over : v ≡ 0 → (known (held n) x ≡ false) × (length (held n) ≡ most)
+-- the name x, after the names n: its number v, and the names m with it; or there is none, and it is one too many
+pub record NotedIs (n : Names) (x : List ℕ) (r : Option ℕ) (m : Names) : Type 0 where
+  pub over : r ≡ None → (known (held n) x ≡ false) × (length (held n) ≡ most)
   pub fine : Fine m
-  pub noted : ¬ (v ≡ 0) → held m ≡ note (held n) x
-  pub number : ¬ (v ≡ 0) → v ≡ suc (position (held m) x)
-  pub under : ¬ (v ≡ 0) → ¬ ((known (held n) x ≡ false) × (length (held n) ≡ most))
+  pub noted : (v : ℕ) → r ≡ Some v → held m ≡ note (held n) x
+  pub number : (v : ℕ) → r ≡ Some v → v ≡ suc (position (held m) x)
+  pub under : (v : ℕ) → r ≡ Some v → ¬ ((known (held n) x ≡ false) × (length (held n) ≡ most))
 
-abbrev pub taken : ℕ → ℕ → ℕ → ℕ → Taken
-taken m i v k = record { number = m; at = i; variable = v; names = k }
+-- number 0: a term ends before `at`, with its variable; else the refusal's number, and its place
+pub record Taken : Type 0 where
+  pub number : ℕ
+  pub at : ℕ
+  pub variable : ℕ
+
+abbrev pub taken : Result (ℕ × ℕ) Refusal → Taken
+taken (Ok (i, v)) = record { number = yes_number; at = i; variable = v }
+taken (Err x) = record { number = (told x).number; at = (told x).place; variable = 0 }
 
 module _ (s : List ℕ) (last : Bool) (i : ℕ) (n : Names) where
   -- a term is read from i on, and is numbered; m are the names with it

@@ -8,147 +8,170 @@
 // Models and assignments: a digit for each byte, - for 255; anything else is skipped.
 #![tactic(auto)]
 
-use leaves::wide;
-use logic::{MODEL, TABLE, Table};
+ghost use Rattle.std.specs.Prelude.{◌≤◌, length};
 
-const NODES: usize = TABLE / 3;
+use logic::{MODEL, NODES};
 
-// A formula in the making: its nodes so far, the nodes that are no child yet, the operators that wait for their last child
-// (with the parentheses that hold them), and the atom that is being read (relation 0: its left side only).
+// Up to N items, in fixed memory.
+#[derive(Drop)]
+pub struct Items<T: Copy, const N: usize> {
+    room: [T; N],
+    count: usize,
+    ghost within: { count ≤ length room },
+}
+
+impl<T: Copy, const N: usize> Items<T, N> {
+    // None yet; the room is blank.
+    fn new(blank: T) -> Self {
+        Items {
+            room: [blank; N],
+            count: 0,
+        }
+    }
+
+    pub fn as_slice(&self) -> &[T] {
+        &self.room[..self.count]
+    }
+
+    // Adds an item at the end, if there is room.
+    fn push(&mut self, item: T) {
+        if self.count < N {
+            self.room[self.count] = item;
+            self.count += 1;
+        }
+    }
+
+    // Adds these items, as far as there is room.
+    fn extend(&mut self, items: &[T]) {
+        for item in items {
+            self.push(*item);
+        }
+    }
+
+    // Takes the last item away.
+    fn pop(&mut self) -> Option<T> {
+        if self.count == 0 {
+            return None;
+        }
+        self.count -= 1;
+        Some(self.room[self.count])
+    }
+}
+
+// The operators, with their numbers in a book.
 #[derive(Clone, Copy)]
+enum Operator {
+    Equal = 1,
+    Different = 2,
+    PointsTo = 3,
+    List = 4,
+    And = 5,
+    Or = 6,
+    AndNot = 7,
+    Not = 8,
+    Star = 9,
+    Septraction = 10,
+}
+
+// What waits for its last child, and the parenthesis that holds it.
+#[derive(Clone, Copy)]
+enum Waiting {
+    Parenthesis,
+    Negation,
+    Pair(Operator),
+}
+
+// A formula in the making: its nodes so far, the nodes that are no child yet, what waits, and the atom that is being read (with
+// no relation: its left side only).
+#[derive(Drop)]
 struct Draft {
-    nodes: Table,
-    count: u8,
-    roots: [u8; NODES],
-    height: u8,
-    waiting: [u8; NODES],
-    depth: u8,
+    nodes: Items<[u8; 3], NODES>,
+    roots: Items<u8, NODES>,
+    waiting: Items<Waiting, NODES>,
     left: u8,
-    relation: u8,
+    relation: Option<Operator>,
 }
 
 impl Draft {
-    fn new() -> Self {
-        Draft {
-            nodes: [0; TABLE],
-            count: 0,
-            roots: [0; NODES],
-            height: 0,
-            waiting: [0; NODES],
-            depth: 0,
+    fn of(formula: &str) -> Draft {
+        let mut draft = Draft {
+            nodes: Items::new([0; 3]),
+            roots: Items::new(0),
+            waiting: Items::new(Waiting::Parenthesis),
             left: 0,
-            relation: 0,
+            relation: None,
+        };
+        for c in formula.bytes() {
+            draft.take(c);
         }
+        draft
     }
 
     // The node comes next, and is no child yet.
-    fn node(mut self, op: u8, a: u8, b: u8) -> Self {
-        let k = wide(self.count);
-        let top = wide(self.height);
-        if NODES <= k {
-            return self;
-        }
-        if NODES <= top {
-            return self;
-        }
-        self.nodes[3 * k] = op;
-        self.nodes[3 * k + 1] = a;
-        self.nodes[3 * k + 2] = b;
-        self.roots[top] = self.count;
-        self.count += 1;
-        self.height += 1;
-        self
-    }
-
-    // The last node that is no child yet.
-    fn root(self) -> u8 {
-        let top = wide(self.height);
-        if top == 0 {
-            return 0;
-        }
-        if NODES < top {
-            return 0;
-        }
-        self.roots[top - 1]
-    }
-
-    fn without_root(mut self) -> Self {
-        if self.height == 0 {
-            return self;
-        }
-        self.height -= 1;
-        self
-    }
-
-    fn wait(mut self, operator: u8) -> Self {
-        let top = wide(self.depth);
-        if NODES <= top {
-            return self;
-        }
-        self.waiting[top] = operator;
-        self.depth += 1;
-        self
-    }
-
-    // The operator that waits last; 0 if there is none.
-    fn operator(self) -> u8 {
-        let top = wide(self.depth);
-        if top == 0 {
-            return 0;
-        }
-        if NODES < top {
-            return 0;
-        }
-        self.waiting[top - 1]
-    }
-
-    fn without_operator(mut self) -> Self {
-        if self.depth == 0 {
-            return self;
-        }
-        self.depth -= 1;
-        self
+    fn add(&mut self, operator: Operator, a: u8, b: u8) {
+        self.roots.push(self.nodes.count as u8);
+        self.nodes.push([operator as u8, a, b]);
     }
 
     // The last node is whole: a negation in front of it takes it.
-    fn whole(self) -> Self {
-        if self.operator() != b'!' {
-            return self;
+    fn end_node(&mut self) {
+        if let Some(Waiting::Negation) = self.waiting.as_slice().last() {
+            self.waiting.pop();
+            let a = self.roots.pop().unwrap_or(0);
+            self.add(Operator::Not, a, 0);
         }
-        let a = self.root();
-        self.without_root().without_operator().node(8, a, 0)
-    }
-
-    fn variable(mut self, x: u8) -> Self {
-        if self.relation == 0 {
-            self.left = x;
-            return self;
-        }
-        let op = self.relation;
-        let a = self.left;
-        self.relation = 0;
-        self.node(op, a, x).whole()
-    }
-
-    fn relate(mut self, op: u8) -> Self {
-        self.relation = op;
-        self
     }
 
     // A pair ends: the operator that waits takes the last two nodes, and goes with its parenthesis.
-    fn close(self) -> Self {
-        let op = operator_number(self.operator());
-        let b = self.root();
-        let rest = self.without_root().without_operator().without_operator();
-        let a = rest.root();
-        rest.without_root().node(op, a, b).whole()
+    fn end_pair(&mut self) {
+        let waiting = self.waiting.pop();
+        self.waiting.pop();
+        let b = self.roots.pop().unwrap_or(0);
+        let a = self.roots.pop().unwrap_or(0);
+        if let Some(Waiting::Pair(operator)) = waiting {
+            self.add(operator, a, b);
+            self.end_node();
+        }
     }
 
-    fn not_empty(self) -> Self {
-        self.wait(b'!').node(1, 0, 0).whole()
+    fn variable(&mut self, x: u8) {
+        match self.relation.take() {
+            None => self.left = x,
+            Some(relation) => {
+                self.add(relation, self.left, x);
+                self.end_node();
+            }
+        }
     }
 
-    fn take(self, c: u8) -> Self {
+    fn relate(&mut self, relation: Operator) {
+        self.relation = Some(relation);
+    }
+
+    fn pair(&mut self, operator: Operator) {
+        self.waiting.push(Waiting::Pair(operator));
+    }
+
+    fn empty(&mut self) {
+        self.add(Operator::Equal, 0, 0);
+        self.end_node();
+    }
+
+    fn not_empty(&mut self) {
+        self.waiting.push(Waiting::Negation);
+        self.empty();
+        self.end_node();
+    }
+
+    fn truth(&mut self) {
+        self.waiting.push(Waiting::Parenthesis);
+        self.empty();
+        self.pair(Operator::Or);
+        self.not_empty();
+        self.end_pair();
+    }
+
+    fn take(&mut self, c: u8) {
         match c {
             b'0' => self.variable(0),
             b'x' => self.variable(1),
@@ -156,107 +179,53 @@ impl Draft {
             b'z' => self.variable(3),
             b'u' => self.variable(4),
             b'v' => self.variable(5),
-            b'=' => self.relate(1),
-            b'#' => self.relate(2),
-            b'>' => self.relate(3),
-            b'~' => self.relate(4),
-            b'E' => self.node(1, 0, 0).whole(),
-            b'N' => self.not_empty().whole(),
-            b'T' => self.wait(b'(').wait(b'+').node(1, 0, 0).not_empty().close(),
-            b'(' | b'!' | b'&' | b'+' | b'-' | b'*' | b'@' => self.wait(c),
-            b')' => self.close(),
-            _ => self,
+            b'=' => self.relate(Operator::Equal),
+            b'#' => self.relate(Operator::Different),
+            b'>' => self.relate(Operator::PointsTo),
+            b'~' => self.relate(Operator::List),
+            b'E' => self.empty(),
+            b'N' => self.not_empty(),
+            b'T' => self.truth(),
+            b'(' => self.waiting.push(Waiting::Parenthesis),
+            b'!' => self.waiting.push(Waiting::Negation),
+            b'&' => self.pair(Operator::And),
+            b'+' => self.pair(Operator::Or),
+            b'-' => self.pair(Operator::AndNot),
+            b'*' => self.pair(Operator::Star),
+            b'@' => self.pair(Operator::Septraction),
+            b')' => self.end_pair(),
+            _ => {}
         }
     }
 }
 
-fn operator_number(c: u8) -> u8 {
-    match c {
-        b'&' => 5,
-        b'+' => 6,
-        b'-' => 7,
-        b'*' => 9,
-        b'@' => 10,
-        _ => 0,
+// The bytes of a book, with more room than the longest takes.
+pub type Book = Items<u8, 256>;
+
+// The book with these bounds v n p and this formula.
+pub fn book(bounds: &[u8], formula: &str) -> Book {
+    let nodes = Draft::of(formula).nodes;
+    let mut book = Book::new(0);
+    book.extend(&[2, 1, 11, 0, 3, 0, 2, 14, 0, (3 * nodes.count) as u8, 0]);
+    book.extend(bounds);
+    for node in nodes.as_slice() {
+        book.extend(node);
     }
+    book
 }
 
-fn drafted(formula: &[u8]) -> Draft {
-    let mut d = Draft::new();
-    let mut i = 0;
-    while i < formula.len() {
-        d = d.take(formula[i]);
-        i += 1;
-    }
-    d
-}
+// The bytes of a model or an assignment, at most as many as a model has.
+pub type Bytes = Items<u8, MODEL>;
 
-// The book with these bounds and this formula; gives back its length.
-pub fn book(bounds: [u8; 3], formula: &[u8], out: &mut [u8; 256]) -> usize {
-    let d = drafted(formula);
-    let count = d.count;
-    if NODES < wide(count) {
-        return 0;
-    }
-    let head = [2, 1, 11, 0, 3, 0, 2, 14, 0, 3 * count, 0];
-    let nodes = d.nodes;
-    copy(&head, out, 0);
-    copy(&bounds, out, 11);
-    copy(&nodes, out, 14);
-    14 + 3 * wide(count)
-}
-
-// Copies the bytes to the output from `at` on, as far as it has room.
-fn copy(from: &[u8], out: &mut [u8; 256], at: usize) {
-    let mut next = at;
-    let mut i = 0;
-    while i < from.len() {
-        if next < 256 {
-            out[next] = from[i];
-            next += 1;
+// The bytes that these digits are.
+pub fn bytes(digits: &str) -> Bytes {
+    let mut bytes = Bytes::new(0);
+    for c in digits.bytes() {
+        match c {
+            b'-' => bytes.push(255),
+            b'0'..=b'9' => bytes.push(c - b'0'),
+            _ => {}
         }
-        i += 1;
     }
-}
-
-// The first n bytes; none if there are not as many.
-pub fn front(bytes: &[u8], n: usize) -> &[u8] {
-    if bytes.len() < n {
-        return &bytes[0..0];
-    }
-    &bytes[0..n]
-}
-
-// The same of a page, which has room for every book and for all that `shape` prints.
-pub fn front_of_page(page: &[u8; 256], n: usize) -> &[u8] {
-    front(page, n)
-}
-
-// The bytes of a model or an assignment, at most as many as a model has; gives back their count.
-pub fn bytes(digits: &[u8], out: &mut [u8; MODEL]) -> usize {
-    let mut count = 0;
-    let mut i = 0;
-    while i < digits.len() {
-        count = put_byte(digits[i], out, count);
-        i += 1;
-    }
-    count
-}
-
-// Puts the character's byte, if it has one and there is room, at `count`; gives back the count with it.
-fn put_byte(c: u8, out: &mut [u8; MODEL], count: usize) -> usize {
-    if MODEL <= count {
-        return count;
-    }
-    match c {
-        b'-' => {
-            out[count] = 255;
-            count + 1
-        }
-        b'0'..=b'9' => {
-            out[count] = c - b'0';
-            count + 1
-        }
-        _ => count,
-    }
+    bytes
 }

@@ -140,6 +140,11 @@ bytes_add = record { atom = atom; join = join }
             unfold own_byte_count in
             rw (a_is_child o l, b_is_child o l n, lt-leb o 4 l) (sym (ap length (join_text o a b l h n)) ∙ length_around o (text a) (text b) ∙ omega arith)
 
+-- the words of an operator are short
+pub words_short : (o : ℕ) → 1 ≤ o → o ≤ 10 → word_bytes o ≤ 26
+unfolding word_bytes before between behind
+words_short = each_operator (λ o. word_bytes o ≤ 26) (omega arith) (omega arith) (omega arith) (omega arith) (omega arith) (omega arith) (omega arith) (omega arith) (omega arith) (omega arith)
+
 -- what a node has of its own at the most, by how many children it has
 pub own_most : (o x y : ℕ) → 1 ≤ o → o ≤ 10 → own_byte_count o x y ≤ none o * 40 + one o * 6 + two o * 20
 unfolding own_byte_count word_bytes before between behind

@@ -1,5 +1,5 @@
--- A model's bytes packed into numbers, and a table copied into a larger one. Assumes nothing: these are definitions.
-use Rattle.std.specs.Prelude.{◌≡◌, Bool, true, false, List, ℕ, ◌+◌, ◌-◌, ◌<◌, ◌≤◌, get_or}
+-- A model's bytes packed into numbers. Assumes nothing: these are definitions.
+use Rattle.std.specs.Prelude.{Bool, true, false, List, ℕ, ◌+◌, ◌-◌, ◌≤◌, get_or}
 use Rattle.logic.specs.Digits.{num_of}
 use Rattle.logic.specs.Model.{digit_of}
 use Rattle.cells.specs.Cells.{cells}
@@ -16,11 +16,6 @@ items cell m from i = item_of cell (get_or m (from + i) 0)
 -- the items i to count - 1, the lowest first
 abbrev pub packed_from : Bool → List ℕ → ℕ → ℕ → ℕ → ℕ
 packed_from cell m from count i = num_of 256 (count - i) (λ j. items cell m from (i + j))
-
--- the first k places of f are copied into t, which has nothing behind them
-pub record Copying (f t : List ℕ) (k : ℕ) : Type 0 where
-  pub copied : (i : ℕ) → i < k → get_or t i 0 ≡ get_or f i 0
-  pub free : (i : ℕ) → k ≤ i → get_or t i 0 ≡ 0
 
 -- each of the locations or digits that w packs is at most k
 abbrev pub AtMost : ℕ → ℕ → Type 0

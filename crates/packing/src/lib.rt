@@ -13,7 +13,7 @@ use logic::Table;
 fn item(x: u8, cell: bool) -> u64
     ensures { (result ≡ item_of cell x) × (result < 256) }
 {
-    if cell { (x as u64 + 1) % 256 } else { x as u64 }
+    u64::from(if cell { x.wrapping_add(1) } else { x })
 }
 
 // The stack or the heap that count bytes of a model are, packed.
@@ -22,9 +22,7 @@ pub fn packed(model: &[u8], from: usize, count: usize, cell: bool) -> u64
     ensures { result ≡ packed_from cell model.now from count 0 }
 {
     let mut w: u64 = 0;
-    let mut i = count;
-    while 0 < i {
-        i -= 1;
+    for i in (0..count).rev() {
         w = w * 256 + item(model[from + i], cell);
     }
     w
@@ -36,10 +34,8 @@ pub fn is_at_most(w: u64, k: u64) -> bool
     requires { k < 16 }
     ensures { Is result (AtMost w k) }
 {
-    if w & 0xf0f0_f0f0_f0f0_f0f0 != 0 {
-        return false;
-    }
-    (w + (15 - k) * 0x0101_0101_0101_0101) & 0x1010_1010_1010_1010 == 0
+    w & 0xf0f0_f0f0_f0f0_f0f0 == 0
+        && (w + (15 - k) * 0x0101_0101_0101_0101) & 0x1010_1010_1010_1010 == 0
 }
 
 // The formula's table with zeros after it, as the judge's core takes it.
@@ -48,10 +44,6 @@ pub fn table_of(f: &[u8]) -> Table
     ensures { (i : ℕ) → get_or result i 0 ≡ get_or f.now i 0 }
 {
     let mut t = [0u8; logic::TABLE];
-    let mut i: usize = 0;
-    while i < f.len() {
-        t[i] = f[i];
-        i += 1;
-    }
+    t[..f.len()].copy_from_slice(f);
     t
 }

@@ -13,14 +13,11 @@ const PARTS: u16 = 256;
 // As many locations as the short table is for.
 pub const FEW: u64 = 6;
 
-// A table with a place for each of 64 sets and for each of their 729 pairs.
-pub type Few = [u16; 793];
-
-// The table for six locations or fewer. It is laid out on the stack where it is asked for, so a caller asks once and lends it.
-pub fn few() -> Few
-    ensures { Lists 6 result }
+// The table for six locations or fewer: a place for each of 64 sets and for each of their 729 pairs.
+pub fn few() -> &'static [u16]
+    ensures { Lists 6 result.now × (length result.now ≡ 793) }
 {
-    table::PAIRS
+    &table::PAIRS
 }
 
 // Where the stretch of the set a begins.
@@ -28,7 +25,7 @@ pub fn begin(t: &[u16], a: u64) -> usize
     requires { (l : ℕ) × Lists l t.now × (a < sets l) }
     ensures { Inside t.now result a × (part_at t.now result ≡ 0) }
 {
-    t[a as usize] as usize
+    usize::from(t[a as usize])
 }
 
 // The part at place i.
@@ -36,5 +33,5 @@ pub fn part_at(t: &[u16], i: usize) -> u64
     requires { i < length t.now }
     ensures { result ≡ part_at t.now i }
 {
-    (t[i] % PARTS) as u64
+    u64::from(t[i] % PARTS)
 }

@@ -40,12 +40,10 @@ fn is_long_from(w: u64, l: u64, p: u64) -> bool
     let mut d = l + 1;
     let mut m = 1 | bit(d);
     let mut missed: u64 = 0;
-    let mut i: u64 = 0;
-    while i <= p {
+    for _ in 0..p + 1 {
         d = next(w, d);
-        missed = missed | (m >> d);
-        m = m | bit(d);
-        i += 1;
+        missed |= m >> d;
+        m |= bit(d);
     }
     missed % 2 == 0
 }
@@ -55,18 +53,13 @@ pub fn is_short(n: u64, p: u64, w: u64) -> bool
     requires { (n ≤ most) × Heap n (cells w) }
     ensures { Is result (NoLongPath p (cells w)) }
 {
-    if n <= p {
+    if n <= p || count(w) <= p {
         return true;
     }
-    if count(w) <= p {
-        return true;
-    }
-    let mut l: u64 = 1;
-    while l <= n {
+    for l in 1..n + 1 {
         if is_long_from(w, l, p) {
             return false;
         }
-        l += 1;
     }
     true
 }

@@ -9,8 +9,8 @@ use Rattle.std.proofs.Math.ListN.{get_or, get_or-append}
 use Rattle.std.proofs.lemmas.List.{get_or-replicate}
 use Rattle.logic.specs.declared.Profile.TheVariants.{Strong}
 use Rattle.logic.specs.declared.Answer.{Answer}
-use Rattle.logic.specs.Numbers.{yes_number}
-use Rattle.logic.specs.Book.{most, vars_of, locs_of, formula_of, Accepted, Opens}
+use Rattle.logic.specs.Numbers.{answer, yes_number}
+use Rattle.logic.specs.Book.{most, vars_of, locs_of, formula_of, Accepted, Reads, Bodies, Opens}
 use Rattle.logic.proofs.BookLaws.{accepted_whole, reads_no}
 use Rattle.logic.proofs.OpenLaws.{opened, vars_low, locs_low}
 use Rattle.logic.specs.Checks.{Passes}
@@ -67,6 +67,13 @@ module _ (s : List ℕ) (a : Answer) (m : List ℕ) (q : Searches Strong s budge
       go : Dec (b.number ≡ yes_number) → (v ≡ vars_of s) × (n ≡ locs_of s)
       go (yes z) = ((o.bounds z).0, (o.bounds z).1)
       go (no f) = absurd (reads_no s b o.answer f found_accepted)
+
+-- what a book that was opened, or refused, tells
+pub opens_given : {s f : List ℕ} {v n p : ℕ} → Reads s (answer yes_number 0) → Bodies s f v n p → Opens s (answer yes_number 0) v n p
+opens_given r b = record { answer = r; bounds = λ _. (b.vars, b.locs, b.path); none = λ g. absurd (g refl) }
+
+pub opens_none : {s : List ℕ} {b : Answer} → Reads s b → ¬ (b.number ≡ yes_number) → Opens s b 0 0 0
+opens_none r g = record { answer = r; bounds = λ z. absurd (g z); none = λ _. (refl, refl, refl) }
 
 -- an opened book's bounds are in range, accepted or not
 pub bounds_low : (s : List ℕ) (b : Answer) (v n p : ℕ) → Opens s b v n p → (v ≤ most) × (n ≤ most)

@@ -15,6 +15,8 @@ pub fn put_printed(book: &[u8], out: &mut [u8; 256]) -> usize
 {
     let mut model = [0u8; MODEL];
     let answer = search(Profile::Strong, book, 1000000, &mut model);
-    let bounds = open(book);
-    put_lines(answer, &model, bounds.v as usize, bounds.n as usize, out)
+    match open(book) {
+        Ok(problem) => put_lines(answer, &model, problem.v as usize, problem.n as usize, out),
+        Err(_) => put_lines(answer, &model, 0, 0, out),
+    }
 }

@@ -1,4 +1,6 @@
 pub mod Puts
 pub mod PutsLaws
+pub mod Pens
+pub mod PensLaws
 pub mod Decimal
 pub mod DecimalLaws

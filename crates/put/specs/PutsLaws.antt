@@ -1,6 +1,6 @@
 -- Laws of bytes written into an output: one byte, none, and two writings one after the other. Assumes nothing.
-use Rattle.std.specs.Prelude.{◌≡◌, refl, List, [], ◌∷◌, ◌++◌, ℕ, ◌+◌, ◌<◌, ◌≤◌, length, take, drop, set, get_or}
-use Rattle.std.proofs.Common.{sym, ap, ap₂, subst, ◌∙◌, append-nil, append_assoc, arith, length-append, take-append-drop, add-one, take-suc, drop-drop}
+use Rattle.std.specs.Prelude.{◌≡◌, refl, List, [], ◌∷◌, ◌++◌, ℕ, ◌+◌, ◌≤◌, length, take, drop, set}
+use Rattle.std.proofs.Common.{sym, ap, ap₂, subst, ◌∙◌, append-nil, append_assoc, arith, length-append, take-append-drop, drop-drop}
 use Rattle.std.proofs.lemmas.List.Edits.{sets-eq, length-paste, take-paste, drop-paste}
 use Rattle.std.proofs.Math.Seq.{paste, take-length}
 use Rattle.put.specs.Puts.{Room, Puts}
@@ -62,15 +62,6 @@ puts_as {at} {xs} {ys} {o} {p} {m} e a = subst (λ (bs : List ℕ). Puts at bs o
 
 pub room_as : {xs ys : List ℕ} (at : ℕ) (o : List ℕ) → xs ≡ ys → Room at ys o → Room at xs o
 room_as at o e r = omega (arith, ap length e)
-
--- one byte more of a word
-module _ (w : List ℕ) (i : ℕ) (l : i < length w) where
-  pub word_more : take i w ++ (get_or w i 0 ∷ []) ≡ take (i + 1) w
-  word_more = sym (take-suc w i 0 l) ∙ ap (λ (k : ℕ). take k w) (sym (add-one i))
-
-  pub room_word : (at : ℕ) (o : List ℕ) → Room at w o → Room at (take i w ++ (get_or w i 0 ∷ [])) o
-  room_word at o r =
-      omega (arith, r, ap length word_more, ap length (take-append-drop (i + 1) w), length-append (take (i + 1) w) (drop (i + 1) w))
 
 -- what is written from place 0 on stands at the front
 pub puts_at_front : (bs o o' : List ℕ) (m : ℕ) → Puts 0 bs o o' m → (m ≡ length bs) × (o' ≡ bs ++ drop (length bs) o)

@@ -1,31 +1,10 @@
-// Bytes into the output, from a place on: a byte, a word, a number in decimal. Each writer puts its bytes from `at` on, leaves
-// every other byte as it was, and gives back the place after them; the caller shows that there is room.
+// Bytes into the output, one behind the other: a byte, a word, a number in decimal. Each writer leaves every other byte as it was; the
+// caller shows that there is room.
 #![tactic(auto)]
 
 ghost use Rattle.std.specs.Prelude.{◌≡◌, [], ◌∷◌, ◌<◌};
-ghost use Rattle.put.specs.Puts.{Puts, Room};
 ghost use Rattle.put.specs.Decimal.{figure, decimal, numbered};
-
-pub fn put(out: &mut [u8], at: usize, x: u8) -> usize
-    requires { Room at (x ∷ []) out.old }
-    ensures { Puts at (x ∷ []) out.old out.new result }
-{
-    out[at] = x;
-    at + 1
-}
-
-pub fn put_word(out: &mut [u8], at: usize, word: &[u8]) -> usize
-    requires { Room at word.now out.old }
-    ensures { Puts at word.now out.old out.new result }
-{
-    let mut next = at;
-    let mut i = 0;
-    while i < word.len() {
-        next = put(out, next, word[i]);
-        i += 1;
-    }
-    next
-}
+ghost use Rattle.put.specs.Pens.{Space, Writes};
 
 // The digit d, as its byte.
 fn figure_of(d: u64) -> u8
@@ -35,21 +14,48 @@ fn figure_of(d: u64) -> u8
     48 + d as u8
 }
 
-pub fn put_decimal(out: &mut [u8], at: usize, x: u64) -> usize
-    requires { Room at (decimal x) out.old }
-    ensures { Puts at (decimal x) out.old out.new result }
-{
-    if x < 10 {
-        return put(out, at, figure_of(x));
-    }
-    let last = put_decimal(out, at, x / 10);
-    put(out, last, figure_of(x % 10))
+// An output, and the place from which its next byte is written.
+#[derive(Drop)]
+pub struct Pen<'a> {
+    pub out: &'a mut [u8],
+    pub at: usize,
 }
 
-pub fn put_number(out: &mut [u8], at: usize, word: &[u8], x: u64) -> usize
-    requires { Room at (numbered word.now x) out.old }
-    ensures { Puts at (numbered word.now x) out.old out.new result }
-{
-    let after = put_word(out, at, word);
-    put_decimal(out, after, x)
+impl Pen<'_> {
+    pub fn put(&mut self, x: u8)
+        requires { Space self.old (x ∷ []) }
+        ensures { Writes self.old (x ∷ []) self.new }
+    {
+        self.out[self.at] = x;
+        self.at += 1;
+    }
+
+    pub fn put_word(&mut self, word: &[u8])
+        requires { Space self.old word.now }
+        ensures { Writes self.old word.now self.new }
+    {
+        let end = self.at + word.len();
+        self.out[self.at..end].copy_from_slice(word);
+        self.at = end;
+    }
+
+    pub fn put_decimal(&mut self, x: u64)
+        requires { Space self.old (decimal x) }
+        ensures { Writes self.old (decimal x) self.new }
+    {
+        if x < 10 {
+            self.put(figure_of(x));
+            return;
+        }
+        self.put_decimal(x / 10);
+        self.put(figure_of(x % 10));
+    }
+
+    pub fn put_number(&mut self, word: &[u8], x: u64)
+        requires { Space self.old (numbered word.now x) }
+        ensures { Writes self.old (numbered word.now x) self.new }
+    {
+        self.put_word(word);
+        self.put_decimal(x);
+    }
 }

@@ -7,16 +7,15 @@ ghost use Rattle.logic.specs.CheckLaws.{Yes};
 ghost use Rattle.logic.specs.Reflect.{Is};
 ghost use Rattle.logic.specs.Book.{most};
 ghost use Rattle.logic.specs.Model.{InRange, byte_checks};
+ghost use Rattle.leaves.specs.Refusals.{outcome};
 ghost use Rattle.ranges.specs.Packs.{Long, Holding, Packs};
 
-use leaves::{answer_of, wide};
-use logic::Answer;
+use leaves::Refusal;
 use packing::{is_at_most, packed};
 
-// A model that was packed: whether its bytes are one, and where they have the right length its stack and its heap.
+// A model that was packed: its stack and its heap.
 #[derive(Clone, Copy)]
 pub struct Packed {
-    pub answer: Answer,
     pub stack: u64,
     pub heap: u64,
 }
@@ -27,57 +26,47 @@ fn is_in_range(v: usize, n: usize, i: usize, x: u8) -> bool
     ensures { Is result (InRange v n i x) }
 {
     if i < v {
-        wide(x) <= n
+        usize::from(x) <= n
     } else {
-        (wide(x) + 1) % 256 <= n + 1
+        usize::from(x.wrapping_add(1)) <= n + 1
     }
 }
 
-// The first byte that is out of range.
-fn first_out(v: usize, n: usize, model: &[u8]) -> Answer
+// The first byte that is out of range is refused.
+fn first_out(v: usize, n: usize, model: &[u8]) -> Result<(), Refusal>
     requires { Long v n model.now }
-    ensures { Answers (upto (byte_checks v n model.now) (v + n)) Yes result }
+    ensures { Answers (upto (byte_checks v n model.now) (v + n)) Yes (outcome result) }
 {
-    let mut i: usize = 0;
-    while i < v + n {
-        if !is_in_range(v, n, i, model[i]) {
-            return answer_of(logic::MODEL_VALUE, i);
+    for (i, x) in model.iter().enumerate() {
+        if !is_in_range(v, n, i, *x) {
+            return Err(Refusal::ModelValue(i));
         }
-        i += 1;
     }
-    answer_of(logic::YES, 0)
+    Ok(())
 }
 
 // Whether each byte is in range: of all at once, and one by one only where a byte is not, for its place.
-fn in_range(v: usize, n: usize, model: &[u8], stack: u64, heap: u64) -> Answer
+fn in_range(v: usize, n: usize, model: &[u8], stack: u64, heap: u64) -> Result<(), Refusal>
     requires { Holding v n model.now stack heap }
-    ensures { Answers (upto (byte_checks v n model.now) (v + n)) Yes result }
+    ensures { Answers (upto (byte_checks v n model.now) (v + n)) Yes (outcome result) }
 {
-    if is_at_most(stack, n as u64) {
-        if is_at_most(heap, n as u64 + 1) {
-            return answer_of(logic::YES, 0);
-        }
+    if is_at_most(stack, n as u64) && is_at_most(heap, n as u64 + 1) {
+        Ok(())
+    } else {
+        first_out(v, n, model)
     }
-    first_out(v, n, model)
 }
 
-// Whether the bytes are a model over v variables and n locations, 17 and 18; and the model, packed.
-pub fn pack(v: usize, n: usize, model: &[u8]) -> Packed
+// The model over v variables and n locations that the bytes are, packed; or they are refused, 17 and 18.
+pub fn pack(v: usize, n: usize, model: &[u8]) -> Result<Packed, Refusal>
     requires { (v ≤ most) × (n ≤ most) }
-    ensures { Packs v n model.now result.answer result.stack result.heap }
+    ensures { Packs v n model.now result }
 {
     if model.len() != v + n {
-        return Packed {
-            answer: answer_of(logic::MODEL_LENGTH, 0),
-            stack: 0,
-            heap: 0,
-        };
+        return Err(Refusal::ModelLength);
     }
     let stack = packed(model, 0, v, false);
     let heap = packed(model, v, n, true);
-    Packed {
-        answer: in_range(v, n, model, stack, heap),
-        stack,
-        heap,
-    }
+    in_range(v, n, model, stack, heap)?;
+    Ok(Packed { stack, heap })
 }

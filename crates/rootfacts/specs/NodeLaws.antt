@@ -7,7 +7,7 @@ use Rattle.logic.specs.Formula.{Form}
 use Rattle.logic.specs.Table.{op_of, operand_of, atom_of, join_of, join_from5, tree}
 use Rattle.logic.proofs.NodeLaws.{atom_operands, child_operands, tree_atom, tree_join}
 use Rattle.cells.specs.Cells.{most, cells}
-use Rattle.facts.specs.declared.Fact.{Fact}
+use Rattle.facts.specs.declared.fact.Fact.{Fact}
 use Rattle.facts.specs.Known.{Known, JoinedAs, AnyAs}
 use Rattle.atomfacts.specs.Atoms.{AtomAs}
 use Rattle.facts.specs.OperatorLaws.{but_known}
@@ -19,7 +19,7 @@ module _ (f : List ℕ) (k n s : ℕ) (rd : Readable f k n s) where
 
   -- a node without facts of its own
   pub any_known : (ℓ : ℕ) (r : Fact) → AnyAs n r → KnownAt f k n s ℓ r
-  any_known ℓ r q = record { small = q.small; known = λ π v. q.known π v (tree f k) (cells s) ℓ }
+  any_known ℓ r q = record { known = λ π v. q.known π v (tree f k) (cells s) ℓ }
 
   module _ (l : op_of f k ≤ 4) where
     pub variables : (operand_of f k 0 ≤ most) × (operand_of f k 1 ≤ most)
@@ -34,7 +34,6 @@ module _ (f : List ℕ) (k n s : ℕ) (rd : Readable f k n s) where
       pub atom_known : (ℓ : ℕ) (r : Fact) → AtomAs (atom_of (op_of f k)) n ℓ x y r → KnownAt f k n s ℓ r
       atom_known ℓ r q =
           record {
-            small = q.small;
             known = λ π v. subst (λ (F : Form). Known π v n F (cells s) ℓ r) (sym (tree_atom rd.vars f (suc k) rd.sound k l)) (q.known π v (cells s) (operand_of f k 0) (operand_of f k 1) (sym ex) (sym ey));
           }
 
@@ -56,7 +55,6 @@ module _ (f : List ℕ) (k n s : ℕ) (rd : Readable f k n s) where
     pub join_known : (x y ℓ : ℕ) (a b r : Fact) → JoinedAs (join_of (op_of f k)) a b r → x ≡ operand_of f k 0 → y ≡ operand_of f k 1 → KnownAt f x n s ℓ a → KnownAt f y n s ℓ b → KnownAt f k n s ℓ r
     join_known x y ℓ a b r q ex ey p w =
         record {
-          small = q.small;
           known = λ π v. subst (λ (F : Form). Known π v n F (cells s) ℓ r) (sym (tree_join rd.vars f (suc k) rd.sound k (omega arith) l)) (q.known π v n (tree f (operand_of f k 0)) (tree f (operand_of f k 1)) (cells s) ℓ rd.few_locs (at x 0 a ex p π v) (at y 1 b ey w π v));
         }
       where
@@ -68,6 +66,5 @@ module _ (f : List ℕ) (k n s : ℕ) (rd : Readable f k n s) where
     unfolding join_of join_from5
     first_known x ℓ r e ex p =
         record {
-          small = p.small;
           known = λ π v. subst (λ (F : Form). Known π v n F (cells s) ℓ r) (sym (tree_join rd.vars f (suc k) rd.sound k (omega arith) l)) (rw e (but_known π v n (tree f (operand_of f k 0)) (tree f (operand_of f k 1)) (cells s) ℓ r (subst (λ (j : ℕ). Known π v n (tree f j) (cells s) ℓ r) ex (p.known π v))));
         }

@@ -18,7 +18,7 @@ use Rattle.skips.proofs.BoundRules.{caps_hopeless}
 use Rattle.skips.specs.Blocks.{most_outgoing}
 use Rattle.skips.specs.BlockFacts.{SkippableAt}
 use Rattle.skips.proofs.HereLaws.{hopeless_here, digit_here, crowded_here}
-use Rattle.facts.specs.declared.Fact.{Fact}
+use Rattle.facts.specs.declared.fact.Fact.{Fact}
 use Rattle.facts.specs.Known.{In}
 use Rattle.facts.specs.KnownLaws.{in_none, no_digit_hopeless}
 use Rattle.rootfacts.specs.NodeFacts.{KnownAt}
@@ -62,7 +62,7 @@ module _ (f : List ℕ) (k n s l : ℕ) (a : Fact) (q : KnownAt f k n s l a) whe
       record {
         digits = λ π v. subst (λ (y : ℕ). Digits π v n (tree f k) (cells s) l (In y)) (sym (ap (λ (y : ℕ). y % set_size) z ∙ e.0)) (q.known π v).digits;
         caps = λ π v. subst (Caps π v n (tree f k) (cells s) l) (sym (ap (λ (y : ℕ). y / set_size) z ∙ e.1)) (q.known π v).caps;
-        low = subst (λ (y : ℕ). y ≤ 255) (sym (ap (λ (y : ℕ). y / set_size) z ∙ e.1)) q.small.cap;
+        low = subst (λ (y : ℕ). y ≤ 255) (sym (ap (λ (y : ℕ). y / set_size) z ∙ e.1)) a.cap_fits;
       }
 
   pub stored_more : (t : List ℕ) (x : ℕ) → l < length t → (x % set_size ≡ a.digits) × (x / set_size ≡ a.cap) → ((ℓ : ℕ) → ℓ < l → EntryAt n (tree f k) (cells s) t ℓ) → (ℓ : ℕ) → ℓ < l + 1 → EntryAt n (tree f k) (cells s) (set t l x) ℓ

@@ -2,6 +2,7 @@
 use Rattle.std.specs.Prelude.{◌≡◌, List, ◌++◌, ℕ, ◌+◌, ◌*◌, ◌<◌, ◌≤◌, length, take, drop}
 use Rattle.rows.specs.declared.Next.{Next}
 use Rattle.rows.specs.Table.{moved}
+use Rattle.rowbytes.specs.declared.Writer.{Writer}
 
 -- bytes at a place of the output, the rest as it was
 unfoldable pub put : ℕ → List ℕ → List ℕ → List ℕ
@@ -16,3 +17,8 @@ pub record Puts (s : Next) (r i j : ℕ) (bs : List ℕ) (t : Next) (o now : Lis
 pub record Space (s : Next) (r : ℕ) (o : List ℕ) : Type 0 where
   pub out : 10 * (s.row + r) ≤ length o
   pub row : s.row + r < 65536
+
+-- the writer u has the output of the writer w, and as many bytes of it
+pub record Kept (w u : Writer) : Type 0 where
+  pub same : u.out.ghost_name ≡ w.out.ghost_name
+  pub long : length u.out.now ≡ length w.out.now

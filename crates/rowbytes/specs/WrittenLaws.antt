@@ -1,15 +1,14 @@
 -- Laws of what is written: bytes behind bytes, and rows behind rows. Assumes nothing.
-use Rattle.std.specs.Prelude.{◌≡◌, refl, List, [], ◌∷◌, ◌++◌, ℕ, zero, suc, ◌+◌, ◌*◌, ◌/◌, ◌%◌, ◌≤◌, length, set, take, drop}
+use Rattle.std.specs.Prelude.{◌≡◌, refl, List, [], ◌∷◌, ◌++◌, ℕ, zero, suc, ◌+◌, ◌-◌, ◌*◌, ◌≤◌, length, take, drop}
 use Rattle.std.proofs.Common.{sym, ap, ap₂, ◌∙◌, append_assoc, arith, length-append, take_at, drop-drop, length-take-le}
-use Rattle.std.proofs.Math.Numerals.{unary_clauses}
-use Rattle.std.proofs.lemmas.List.Edits.{sets-eq}
 use Rattle.std.proofs.Math.Seq.{drop-append-add}
 use Rattle.rows.specs.declared.Fields.{Fields}
 use Rattle.rows.specs.declared.Next.{Next}
 use Rattle.rows.specs.Row.{Row, fields_of, ten_bytes, bytes_of}
 use Rattle.rows.specs.Table.{moved}
 use Rattle.rows.proofs.OutputLaws.{bytes_append, bytes_long}
-use Rattle.rowbytes.specs.Written.{put, Puts, Space}
+use Rattle.rowbytes.specs.declared.Writer.{Writer}
+use Rattle.rowbytes.specs.Written.{put, Puts, Space, Kept}
 
 pub put_put : (at : ℕ) (xs ys o : List ℕ) → at + length xs ≤ length o → put (at + length xs) ys (put at xs o) ≡ put at (xs ++ ys) o
 unfolding put
@@ -19,16 +18,12 @@ put_put at xs ys o h =
     let w : at + length xs + length ys ≡ at + length (xs ++ ys) = simp length-append (omega arith) in
     rw (take_at (take at o ++ xs) (drop (at + length xs) o) (at + length xs) n, m, drop-append-add (take at o ++ xs) (drop (at + length xs) o) (length ys), drop-drop (length ys) (at + length xs) o, w, append_assoc (take at o) xs ys)
 
--- ten stores are a row
-pub ten_stores : (l : List ℕ) (n w : ℕ) (r : Fields) → w ≡ n → 10 * (n + 1) ≤ length l
-    → set (set (set (set (set (set (set (set (set (set l (10 * w) r.op) (10 * w + 1) r.k) (10 * w + 2) (r.a % 256)) (10 * w + 3) (r.a / 256)) (10 * w + 4) (r.b % 256)) (10 * w + 5) (r.b / 256)) (10 * w + 6) (r.c % 256)) (10 * w + 7) (r.c / 256)) (10 * w + 8) (r.d % 256)) (10 * w + 9) (r.d / 256)
-    ≡ put (10 * n) (ten_bytes r) l
+-- ten bytes that are copied to the place of row n are written there
+pub bytes_copied : (l xs bs : List ℕ) (n w : ℕ) → w ≡ n → xs ≡ bs → length bs ≡ 10 → take (10 * w) l ++ (xs ++ drop (10 * w + 10 - 10 * w) (drop (10 * w) l)) ≡ put (10 * n) bs l
 unfolding put
-ten_stores l n w r e h =
-    let nine : 10 * w + 9 ≡ suc (10 * w + 8) = omega arith in
-    let fits : 10 * w + 10 ≤ length l = omega arith in
-    simp (nine, unary_clauses) (sets-eq (ten_bytes r) l (10 * w) fits)
-    ∙ ap (λ (m : ℕ). take (10 * m) l ++ ten_bytes r ++ drop (10 * m + 10) l) e
+bytes_copied l xs bs n w e d h =
+    let k : 10 * w + 10 - 10 * w ≡ 10 = omega arith in
+    rw (k, e, d, drop-drop 10 (10 * n) l, h) (sym (append_assoc (take (10 * n) l) bs (drop (10 * n + 10) l)))
 
 moved_moved : (s : Next) (r i j r' i' j' : ℕ) → moved s (r + r') (i + i') (j + j') ≡ moved (moved s r i j) r' i' j'
 moved_moved s r i j r' i' j' =
@@ -93,3 +88,6 @@ puts_none s o =
     around zero l = refl
     around (suc n) [] = refl
     around (suc n) (x ∷ l) = ap (λ (z : List ℕ). x ∷ z) (around n l)
+
+pub kept_then : {w u x : Writer} → Kept w u → Kept u x → Kept w x
+kept_then p q = record { same = q.same ∙ p.same; long = q.long ∙ p.long }

@@ -4,9 +4,8 @@
 ghost use Rattle.std.specs.Prelude.{◌≡◌, ◌++◌, [], ◌∷◌, ◌+◌, ◌-◌, ◌<◌};
 ghost use Rattle.rows.specs.Row.{plain as plain_of, ten_bytes, bytes_of};
 ghost use Rattle.rows.specs.Row.Row.{AND, OR, NOT};
-ghost use Rattle.rowbytes.specs.Written.{Puts, Space};
+ghost use Rattle.rowbytes.specs.Written.{Puts, Space, Kept};
 
-use leaves::index;
 use rows::{Fields, Next};
 
 // A row of up to three operands.
@@ -23,70 +22,84 @@ pub fn plain(op: u8, a: u16, b: u16, c: u16) -> Fields
     }
 }
 
-// Writes one row.
-pub fn put_row(out: &mut [u8], s: Next, row: Fields) -> Next
-    requires { Space s 1 out.old }
-    ensures { Puts s 1 0 0 (ten_bytes row) result out.old out.new }
+// A row's ten bytes: of each operand the low byte comes first.
+fn bytes(row: Fields) -> [u8; 10]
+    ensures { result ≡ ten_bytes row }
 {
-    let n = s.row;
-    let at = 10 * index(n);
-    let a = row.a;
-    let b = row.b;
-    let x = row.c;
-    let y = row.d;
-    out[at] = row.op;
-    out[at + 1] = row.k;
-    out[at + 2] = (a % 256) as u8;
-    out[at + 3] = (a / 256) as u8;
-    out[at + 4] = (b % 256) as u8;
-    out[at + 5] = (b / 256) as u8;
-    out[at + 6] = (x % 256) as u8;
-    out[at + 7] = (x / 256) as u8;
-    out[at + 8] = (y % 256) as u8;
-    out[at + 9] = (y / 256) as u8;
-    Next {
-        row: n + 1,
-        array: s.array,
-        set: s.set,
+    let [a, a_high] = row.a.to_le_bytes();
+    let [b, b_high] = row.b.to_le_bytes();
+    let [x, x_high] = row.c.to_le_bytes();
+    let [y, y_high] = row.d.to_le_bytes();
+    [row.op, row.k, a, a_high, b, b_high, x, x_high, y, y_high]
+}
+
+// Where rows are written, and the numbers that the next row, array and set get.
+#[derive(Drop)]
+pub struct Writer<'a> {
+    pub out: &'a mut [u8],
+    pub next: Next,
+}
+
+impl Writer<'_> {
+    // Writes one row.
+    pub fn put_row(&mut self, row: Fields)
+        requires { Space self.old.next 1 self.old.out.now }
+        ensures kept { Kept self.old self.new }
+        ensures puts { Puts self.old.next 1 0 0 (ten_bytes row) self.new.next self.old.out.now self.new.out.now }
+    {
+        let s = self.next;
+        let at = 10 * usize::from(s.row);
+        self.out[at..at + 10].copy_from_slice(&bytes(row));
+        self.next = Next {
+            row: s.row + 1,
+            ..s
+        };
     }
-}
 
-pub fn put_and(out: &mut [u8], s: Next, x: u16, y: u16) -> Next
-    requires { Space s 1 out.old }
-    ensures { Puts s 1 0 0 (bytes_of (AND x y ∷ [])) result out.old out.new }
-{
-    put_row(out, s, plain(7, x, y, 0))
-}
+    pub fn put_and(&mut self, x: u16, y: u16)
+        requires { Space self.old.next 1 self.old.out.now }
+        ensures kept { Kept self.old self.new }
+        ensures puts { Puts self.old.next 1 0 0 (bytes_of (AND x y ∷ [])) self.new.next self.old.out.now self.new.out.now }
+    {
+        self.put_row(plain(7, x, y, 0));
+    }
 
-pub fn put_or(out: &mut [u8], s: Next, x: u16, y: u16) -> Next
-    requires { Space s 1 out.old }
-    ensures { Puts s 1 0 0 (bytes_of (OR x y ∷ [])) result out.old out.new }
-{
-    put_row(out, s, plain(8, x, y, 0))
-}
+    pub fn put_or(&mut self, x: u16, y: u16)
+        requires { Space self.old.next 1 self.old.out.now }
+        ensures kept { Kept self.old self.new }
+        ensures puts { Puts self.old.next 1 0 0 (bytes_of (OR x y ∷ [])) self.new.next self.old.out.now self.new.out.now }
+    {
+        self.put_row(plain(8, x, y, 0));
+    }
 
-pub fn put_not(out: &mut [u8], s: Next, x: u16) -> Next
-    requires { Space s 1 out.old }
-    ensures { Puts s 1 0 0 (bytes_of (NOT x ∷ [])) result out.old out.new }
-{
-    put_row(out, s, plain(9, x, 0, 0))
-}
+    pub fn put_not(&mut self, x: u16)
+        requires { Space self.old.next 1 self.old.out.now }
+        ensures kept { Kept self.old self.new }
+        ensures puts { Puts self.old.next 1 0 0 (bytes_of (NOT x ∷ [])) self.new.next self.old.out.now self.new.out.now }
+    {
+        self.put_row(plain(9, x, 0, 0));
+    }
 
-// Writes two rows and their AND.
-pub fn put_pair(out: &mut [u8], s: Next, x: Fields, y: Fields) -> Next
-    requires { Space s 3 out.old }
-    ensures { Puts s 3 0 0 (ten_bytes x ++ ten_bytes y ++ bytes_of (AND s.row (s.row + 1) ∷ [])) result out.old out.new }
-{
-    let t = put_row(out, s, x);
-    let u = put_row(out, t, y);
-    put_and(out, u, s.row, s.row + 1)
-}
+    // Writes two rows and their AND.
+    pub fn put_pair(&mut self, x: Fields, y: Fields)
+        requires { Space self.old.next 3 self.old.out.now }
+        ensures kept { Kept self.old self.new }
+        ensures puts { Puts self.old.next 3 0 0 (ten_bytes x ++ ten_bytes y ++ bytes_of (AND self.old.next.row (self.old.next.row + 1) ∷ [])) self.new.next self.old.out.now self.new.out.now }
+    {
+        let r = self.next.row;
+        self.put_row(x);
+        self.put_row(y);
+        self.put_and(r, r + 1);
+    }
 
-// Writes a row and the AND of the result so far, the row before it, with it.
-pub fn put_also(out: &mut [u8], s: Next, x: Fields) -> Next
-    requires { (0 < s.row) × Space s 2 out.old }
-    ensures { Puts s 2 0 0 (ten_bytes x ++ bytes_of (AND (s.row - 1) s.row ∷ [])) result out.old out.new }
-{
-    let t = put_row(out, s, x);
-    put_and(out, t, s.row - 1, s.row)
+    // Writes a row and the AND of the result so far, the row before it, with it.
+    pub fn put_also(&mut self, x: Fields)
+        requires { (0 < self.old.next.row) × Space self.old.next 2 self.old.out.now }
+        ensures kept { Kept self.old self.new }
+        ensures puts { Puts self.old.next 2 0 0 (ten_bytes x ++ bytes_of (AND (self.old.next.row - 1) self.old.next.row ∷ [])) self.new.next self.old.out.now self.new.out.now }
+    {
+        let r = self.next.row;
+        self.put_row(x);
+        self.put_and(r - 1, r);
+    }
 }

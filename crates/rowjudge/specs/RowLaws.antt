@@ -1,5 +1,5 @@
 -- What the tests of the rows say, on packed heaps and sets. Assumes nothing.
-use Rattle.std.specs.Prelude.{◌≡◌, Bool, not, List, [], ◌⊎◌, eqb, ltb, get_or}
+use Rattle.std.specs.Prelude.{◌≡◌, Bool, List, [], ◌⊎◌, eqb, ltb, get_or}
 use Rattle.std.proofs.Math.Path.{refl, ap, fun_ext}
 use Rattle.std.proofs.Common.{sym, subst, ◌∙◌, inl, inr, ⊎_elim, lt_of_lt_of_le, lt_of_le_of_lt, lt-ltb, ne_eqb}
 use Rattle.std.proofs.Math.Bool.{true, false}
@@ -14,7 +14,7 @@ use Rattle.logic.specs.Heap.{Map, Heap, Locs, MayMeet, Empty}
 use Rattle.logic.specs.Holds.{Points, Segment, Holds}
 use Rattle.logic.specs.Table.{atom_of}
 use Rattle.logic.specs.Reflect.{Is}
-use Rattle.logic.proofs.Reflect.{is_iff, is_eq, is_and, is_not, false_true, decided}
+use Rattle.logic.proofs.Reflect.{is_iff, is_eq, is_and, false_true, decided}
 use Rattle.logic.specs.Tests.{andb, orb, pick, in_part, part, may_meet}
 use Rattle.logic.proofs.Agree.{is_may_meet, locs_low}
 use Rattle.logic.specs.Model.{heap_in, digit_of}
@@ -116,13 +116,13 @@ is_same_heap A B S w1 w2 l1 l2 e1 e2 =
 -- ---- atoms
 
 module _ (π : Profile) (v n op x y : ℕ) (s h : Map) where
-  pub is_same_atom : (a b w : ℕ) (r z : Bool) → cells w ≡ h → op ≡ 1 → a ≡ s x → b ≡ s y → r ≡ andb (eqb a b) z → Is z (Empty (cells w)) → Is r (Holds π v n (atom_of op x y) s h)
+  pub is_same_atom : (a b w : ℕ) (r : Bool) → cells w ≡ h → op ≡ 1 → a ≡ s x → b ≡ s y → Is r ((a ≡ b) × Empty (cells w)) → Is r (Holds π v n (atom_of op x y) s h)
   unfolding Holds atom_of
-  is_same_atom a b w r z m e d f c i = rw (e, c, d, f, ← m) (is_and (eqb (s x) (s y)) z (is_eq (s x) (s y)) i)
+  is_same_atom a b w r m e d f i = rw (e, ← d, ← f, ← m) i
 
-  pub is_diff_atom : (a b w : ℕ) (r z : Bool) → cells w ≡ h → op ≡ 2 → a ≡ s x → b ≡ s y → r ≡ andb (not (eqb a b)) z → Is z (Empty (cells w)) → Is r (Holds π v n (atom_of op x y) s h)
+  pub is_diff_atom : (a b w : ℕ) (r : Bool) → cells w ≡ h → op ≡ 2 → a ≡ s x → b ≡ s y → Is r ((¬ (a ≡ b)) × Empty (cells w)) → Is r (Holds π v n (atom_of op x y) s h)
   unfolding Holds atom_of
-  is_diff_atom a b w r z m e d f c i = rw (e, c, d, f, ← m) (is_and (not (eqb (s x) (s y))) z (is_not (eqb (s x) (s y)) (is_eq (s x) (s y))) i)
+  is_diff_atom a b w r m e d f i = rw (e, ← d, ← f, ← m) i
 
   pub is_pts_atom : (a b w : ℕ) (r : Bool) → cells w ≡ h → op ≡ 3 → a ≡ s x → b ≡ s y → Is r (Points a b (cells w)) → Is r (Holds π v n (atom_of op x y) s h)
   unfolding Holds atom_of

@@ -1,5 +1,5 @@
 -- What the judge of rows is given, and what it says of a node. Assumes nothing: these are definitions.
-use Rattle.std.specs.Prelude.{◌≡◌, List, ℕ, ◌+◌, ◌*◌, ◌^◌, ◌<◌, ◌≤◌, length, get_or}
+use Rattle.std.specs.Prelude.{◌≡◌, Bool, true, false, List, ℕ, ◌+◌, ◌*◌, ◌^◌, ◌<◌, ◌≤◌, length, get_or}
 use Rattle.logic.specs.Formula.{Form}
 use Rattle.logic.specs.Reflect.{Is}
 use Rattle.logic.specs.Model.{stack_in}
@@ -42,15 +42,15 @@ pub record Within (g : Setting) (F : Form) (A S i j : ℕ) : Type 0 where
 -- what is said of a formula, and the numbers after it
 pub record Judged (g : Setting) (q : List ℕ) (F : Form) (A S i j : ℕ) (r : Told) : Type 0 where
   pub holds : Is r.holds (Condition g.profile g.v g.n (given g q) F A S i j)
-  pub array : r.array ≡ i + arrays_in F
-  pub set : r.set ≡ j + sets_in F
+  pub array : r.next.array ≡ i + arrays_in F
+  pub set : r.next.set ≡ j + sets_in F
 
 -- and of two, over one array and two sets
 pub record JudgedBoth (g : Setting) (q : List ℕ) (a b : Form) (A S T i j : ℕ) (r : Pair) : Type 0 where
   pub first : Is r.first (Condition g.profile g.v g.n (given g q) a A S i j)
   pub second : Is r.second (Condition g.profile g.v g.n (given g q) b A T (i + arrays_in a) (j + sets_in a))
-  pub array : r.array ≡ i + (arrays_in a + arrays_in b)
-  pub set : r.set ≡ j + (sets_in a + sets_in b)
+  pub array : r.next.array ≡ i + (arrays_in a + arrays_in b)
+  pub set : r.next.set ≡ j + (sets_in a + sets_in b)
 
 pub record WithinBoth (g : Setting) (a b : Form) (A S T i j : ℕ) : Type 0 where
   pub array : A < i
@@ -58,3 +58,7 @@ pub record WithinBoth (g : Setting) (a b : Form) (A S T i j : ℕ) : Type 0 wher
   pub second : T < j
   pub arrays : i + (arrays_in a + arrays_in b) ≤ g.arrays
   pub sets : j + (sets_in a + sets_in b) ≤ g.sets
+
+-- code tests Q after the test b, where b passes: h is what comes of both
+abbrev pub Also : Bool → Type 0 → Bool → Type 0
+Also b Q h = (b ≡ true → Is h Q) × (b ≡ false → h ≡ false)

@@ -1,7 +1,7 @@
 -- From the hunt in an accepted book's formula to the search's answer and output. Assumes nothing.
 use Rattle.std.specs.Prelude.{◌≡◌, List, ◌++◌, ℕ, suc, ◌+◌, ◌-◌, ◌<◌, ◌≤◌, length, get_or, drop}
 use Rattle.std.proofs.Math.Path.{subst}
-use Rattle.std.proofs.Common.{◌∙◌, ap, ap₂}
+use Rattle.std.proofs.Common.{refl, ◌∙◌, ap, ap₂}
 use native.Mathlib.Omega.{arith}
 use Rattle.logic.specs.declared.Profile.{Profile}
 use Rattle.logic.specs.declared.Answer.{Answer}
@@ -22,7 +22,9 @@ use Rattle.judge.specs.Setting.{room}
 use Rattle.packing.specs.SameTable.{same_tree, same_sound}
 use Rattle.candidates.specs.declared.Candidate.{Candidate}
 use Rattle.candidates.specs.Counter.{WithinBounds}
-use Rattle.hunt.specs.Hunt.{Hunted}
+use Rattle.hunt.specs.declared.Ended.{Ended}
+use Rattle.hunt.specs.declared.Ended.TheVariants.{Found, Nothing, Spent}
+use Rattle.hunt.specs.Hunt.{told, Hunted}
 use Rattle.hunt.specs.HuntLaws.{at_model}
 
 -- ---- the formula f, and the hunt in a table t with the same bytes
@@ -33,8 +35,14 @@ module _ (v n : ℕ) (f t : List ℕ) (same : (i : ℕ) → get_or t i 0 ≡ get
       let last : nodes f ≡ suc (root f) = omega (arith, q.some) in
       (omega (arith, q.few, q.some), same_sound f t same v (suc (root f)) (subst (Sound v f) last q.sound), lv, ln)
 
-  pub hunted_in : (π : Profile) (p budget : ℕ) (a : Answer) (c : Candidate) → Hunted v n (CandidateFits π v n p (tree t (root f))) budget a c → Hunted v n (CandidateFits π v n p (tree f (root f))) budget a c
-  hunted_in π p budget a c q = subst (λ (F : Form). Hunted v n (CandidateFits π v n p F) budget a c) (same_tree f t same (root f)) q
+  pub hunted_in : (π : Profile) (p budget : ℕ) (r : Ended) → Hunted v n (CandidateFits π v n p (tree t (root f))) budget r → Hunted v n (CandidateFits π v n p (tree f (root f))) budget r
+  hunted_in π p budget r q = subst (λ (F : Form). Hunted v n (CandidateFits π v n p F) budget r) (same_tree f t same (root f)) q
+
+-- a hunt that did not end at a model does not say so
+pub not_found : (r : Ended) → ((tried : ℕ) (c : Candidate) → ¬ (r ≡ Found tried c)) → ¬ ((told r).number ≡ yes_number)
+not_found (Found tried c) n e = n tried c refl
+not_found (Nothing tried) n e = omega arith
+not_found (Spent tried) n e = omega arith
 
 -- ---- an accepted book: f is its formula, and v, n and p are its bounds
 
@@ -68,28 +76,32 @@ module _ (π : Profile) (s f : List ℕ) (v n p : ℕ) (q : Bodies s f v n p) (b
     rest_passes b t y =
         subst Passes same_rest (passes_then (upto (name_checks f) v) space_checks names_pass (passes_of_yes space_checks b (omega arith, tt) t y))
 
-  module _ (rest : Passes (search_rest s o)) (a : Answer) (c : Candidate) (h : Hunted v n (CandidateFits π v n p (tree f (root f))) budget a c) where
-    of_the_book : Hunted (vars_of s) (locs_of s) (FitsAt π s) budget a c
-    of_the_book =
-        let same : Hunted v n (CandidateFits π v n p (tree f (root f))) budget a c ≡ Hunted (vars_of s) (locs_of s) (FitsAt π s) budget a c = rw (q.vars, q.locs, q.path, q.formula) in
+  module _ (rest : Passes (search_rest s o)) where
+    of_the_book : (r : Ended) → Hunted v n (CandidateFits π v n p (tree f (root f))) budget r → Hunted (vars_of s) (locs_of s) (FitsAt π s) budget r
+    of_the_book r h =
+        let same : Hunted v n (CandidateFits π v n p (tree f (root f))) budget r ≡ Hunted (vars_of s) (locs_of s) (FitsAt π s) budget r = rw (q.vars, q.locs, q.path, q.formula) in
         subst (λ (P : Type 0). P) same h
 
     space_is : vars_of s + locs_of s ≤ length o
     unfolding Passes
     space_is = (then_passes (upto (name_checks (formula_of s)) (vars_of s)) (room_checks s o) rest).1.0
 
-    -- the model is in range, and there is room for it
-    pub write_ready : a.number ≡ yes_number → WithinBounds c × (c.vars + c.locs ≤ length o)
-    write_ready e =
-        let k = of_the_book.at e in
-        (k.range, omega (arith, k.vars, k.locs, space_is))
+    -- a model is found
+    module _ (tried : ℕ) (c : Candidate) (h : Hunted v n (CandidateFits π v n p (tree f (root f))) budget (Found tried c)) where
+      -- it is in range, and there is room for it
+      pub write_ready : WithinBounds c × (c.vars + c.locs ≤ length o)
+      write_ready =
+          let k = (of_the_book (Found tried c) h).at in
+          (k.range, omega (arith, k.vars, k.locs, space_is))
 
-    pub answer_wrote : (o' : List ℕ) → a.number ≡ yes_number → o' ≡ model_bytes c.vars c.locs (cells c.stack) (cells c.heap) ++ drop (c.vars + c.locs) o → Searches π s budget o a o'
-    answer_wrote o' e w =
-        let k = of_the_book.at e in
-        searches_wrote π s budget o q.accepted rest a of_the_book.outcome o' e
-        (w ∙ ap₂ (λ (x y : ℕ). model_bytes x y (cells c.stack) (cells c.heap) ++ drop (x + y) o) k.vars k.locs
-        ∙ ap (λ (m : List ℕ). m ++ drop (vars_of s + locs_of s) o) (at_model (vars_of s) (locs_of s) (a.tried - 1) c k))
+      pub answer_wrote : (o' : List ℕ) → o' ≡ model_bytes c.vars c.locs (cells c.stack) (cells c.heap) ++ drop (c.vars + c.locs) o → Searches π s budget o (told (Found tried c)) o'
+      answer_wrote o' w =
+          let b = of_the_book (Found tried c) h in
+          let k = b.at in
+          searches_wrote π s budget o q.accepted rest (told (Found tried c)) b.outcome o' refl
+          (w ∙ ap₂ (λ (x y : ℕ). model_bytes x y (cells c.stack) (cells c.heap) ++ drop (x + y) o) k.vars k.locs
+          ∙ ap (λ (m : List ℕ). m ++ drop (vars_of s + locs_of s) o) (at_model (vars_of s) (locs_of s) (tried - 1) c k))
 
-    pub answer_kept : ¬ (a.number ≡ yes_number) → Searches π s budget o a o
-    answer_kept e = searches_kept π s budget o q.accepted rest a of_the_book.outcome e
+    -- or none is
+    pub answer_kept : (r : Ended) → Hunted v n (CandidateFits π v n p (tree f (root f))) budget r → ¬ ((told r).number ≡ yes_number) → Searches π s budget o (told r) o
+    answer_kept r h e = searches_kept π s budget o q.accepted rest (told r) (of_the_book r h).outcome e

@@ -2,397 +2,436 @@
 // rests on it, and so its functions state nothing of what they give back.
 //
 // For a fixed stack it works out, node after node from the first, the set of all heaps that fit the node: an atom's heaps are
-// looked at one by one, a connective's come from its children's sets. No heap is taken apart, and of the bench only the cast
-// `wide`, the number of nodes and the length of a model are used. Stacks and heaps are numbers, a digit for each variable (base n + 1) or location
+// looked at one by one, a connective's come from its children's sets. No heap is taken apart, and of the bench only the number
+// of nodes and the length of a model are used. Stacks and heaps are numbers, a digit for each variable (base n + 1) or location
 // (base n + 2); two strongly disjoint heaps together have the sum of their numbers. Three variables and three locations at the
 // most.
 #![tactic(auto)]
 
-ghost use Rattle.std.specs.Prelude.{◌≤◌};
+ghost use Rattle.std.specs.Prelude.{◌≤◌, ◌<◌, length};
 
-use leaves::wide;
 use logic::{MODEL, NODES};
 
-// As many as there are heaps over three locations; a set of heaps takes one byte for each.
+// The most variables and locations.
+const VARIABLES: u8 = 3;
+
+const LOCATIONS: u8 = 3;
+
+// As many heaps as there are over the most locations.
 const HEAPS: usize = 125;
 
-// The sets of all nodes, one after the other.
-pub const ROOM: usize = HEAPS * NODES;
-
-pub type Sets = [u8; ROOM];
-
-// The bounds and the stack, as every node of the formula sees them.
+// How many variables and locations a model has, and how many links a path may have.
 #[derive(Clone, Copy)]
-pub struct World {
-    pub stack: u8,
-    // n + 1 and n + 2
-    pub stack_base: u8,
-    pub heap_base: u8,
-    // how many heaps there are, (n + 2)^n
-    pub heaps: u8,
+pub struct Bounds {
+    pub variables: u8,
+    pub locations: u8,
     pub path: u8,
-    // the named locations, bit l for location l
-    pub named: u8,
 }
 
-// Whether the second judge can judge within these bounds v n p.
-pub fn can_judge(bounds: [u8; 3]) -> bool {
-    bounds[0] <= 3 && bounds[1] <= 3
+impl Bounds {
+    // Whether the second judge can judge within these bounds.
+    pub fn can_judge(self) -> bool {
+        self.variables <= VARIABLES && self.locations <= LOCATIONS
+    }
+}
+
+// A node of a formula, as its three bytes say.
+#[derive(Clone, Copy)]
+enum Node {
+    Atom(Atom, u8, u8),
+    Connective(Connective, usize, usize),
+    Star(usize, usize),
+    Septraction(usize, usize),
+}
+
+#[derive(Clone, Copy)]
+enum Atom {
+    Equal,
+    Different,
+    PointsTo,
+    List,
+}
+
+#[derive(Clone, Copy)]
+enum Connective {
+    And,
+    Or,
+    AndNot,
+    Not,
+}
+
+impl Node {
+    fn read(bytes: &[u8]) -> Option<Node> {
+        let [operator, x, y] = bytes else {
+            return None;
+        };
+        let a = usize::from(*x);
+        let b = usize::from(*y);
+        let node = match *operator {
+            1 => Node::Atom(Atom::Equal, *x, *y),
+            2 => Node::Atom(Atom::Different, *x, *y),
+            3 => Node::Atom(Atom::PointsTo, *x, *y),
+            4 => Node::Atom(Atom::List, *x, *y),
+            5 => Node::Connective(Connective::And, a, b),
+            6 => Node::Connective(Connective::Or, a, b),
+            7 => Node::Connective(Connective::AndNot, a, b),
+            8 => Node::Connective(Connective::Not, a, b),
+            9 => Node::Star(a, b),
+            10 => Node::Septraction(a, b),
+            _ => return None,
+        };
+        Some(node)
+    }
 }
 
 // Whether an atom of the formula f names the variable x.
 fn is_named(f: &[u8], x: u8) -> bool {
-    for k in 0..f.len() / 3 {
-        if f[3 * k] <= 4 {
-            if f[3 * k + 1] == x {
-                return true;
-            }
-            if f[3 * k + 2] == x {
-                return true;
-            }
+    f.chunks_exact(3).any(
+        |node| matches!(Node::read(node), Some(Node::Atom(_, a, b)) if a == x || b == x),
+    )
+}
+
+// The lowest of the variables 1 to v that no atom of the formula f names.
+pub fn stray(f: &[u8], v: u8) -> Option<u8> {
+    (1..=v).find(|x| !is_named(f, *x))
+}
+
+// A number that is read as digits.
+#[derive(Clone, Copy)]
+struct Digits {
+    number: u8,
+    base: u8,
+    ghost some: { 0 < base },
+}
+
+impl Digits {
+    // What is left above the k lowest digits.
+    fn above(self, k: u8) -> u8 {
+        let mut rest = self.number;
+        for _ in 0..k {
+            rest /= self.base;
         }
+        rest
     }
-    false
-}
 
-// The lowest of the variables 1 to v that no atom of the formula f names, or 0.
-pub fn stray(f: &[u8], v: u8) -> u8 {
-    for x in 1..=v {
-        if !is_named(f, x) {
-            return x;
+    // Digit i, the lowest being digit 1. Nil has no digit: it is at location 0 and unallocated.
+    fn digit(self, i: u8) -> u8 {
+        if i == 0 {
+            return 0;
         }
-    }
-    0
-}
-
-// What is left of x above its k lowest digits.
-pub fn above(x: u8, base: u8, k: u8) -> u8 {
-    if base == 0 {
-        return 0;
-    }
-    match k {
-        0 => x,
-        1 => x / base,
-        2 => x / base / base,
-        3 => x / base / base / base,
-        _ => 0,
+        self.above(i - 1) % self.base
     }
 }
 
-// Digit i of x, the lowest being digit 1. Nil has no digit: it is at location 0 and unallocated.
-fn digit(x: u8, base: u8, i: u8) -> u8 {
-    if i == 0 {
-        return 0;
-    }
-    if base == 0 {
-        return 0;
-    }
-    above(x, base, i - 1) % base
-}
-
-// The set that has location l alone.
+// The set that has location l alone: bit l.
 fn bit(l: u8) -> u8 {
     match l {
-        0 => 1,
-        1 => 2,
-        2 => 4,
-        3 => 8,
+        0..=LOCATIONS => 1 << l,
         _ => 0,
     }
 }
 
-pub fn stack_base(n: u8) -> u8
-    ensures { result ≤ 4 }
+// The base of a stack's number, n + 1.
+fn stack_base(n: u8) -> u8
+    ensures { (0 < result) × (result ≤ 4) }
 {
-    match n {
-        0 => 1,
-        1 => 2,
-        2 => 3,
-        _ => 4,
-    }
+    n.min(LOCATIONS) + 1
 }
 
-fn heap_count(n: u8) -> u8 {
-    match n {
-        0 => 1,
-        1 => 3,
-        2 => 16,
-        _ => 125,
-    }
-}
-
-// The world of a stack over n locations. A variable past the last is at nil, which is named anyway.
-pub fn world_of(n: u8, path: u8, stack: u8) -> World {
-    let base = stack_base(n);
-    World {
-        stack,
-        stack_base: base,
-        heap_base: base + 1,
-        heaps: heap_count(n),
-        path,
-        named: bit(0)
-            | bit(digit(stack, base, 1))
-            | bit(digit(stack, base, 2))
-            | bit(digit(stack, base, 3)),
-    }
-}
-
-// Location l where it is allocated.
-fn source(h: u8, base: u8, l: u8) -> u8 {
-    if digit(h, base, l) == 0 {
-        return 0;
-    }
-    bit(l)
-}
-
-// The value at location l where it is allocated.
-fn value(h: u8, base: u8, l: u8) -> u8 {
-    let d = digit(h, base, l);
-    if d == 0 {
-        return 0;
-    }
-    bit(d - 1)
-}
-
-fn allocated(h: u8, base: u8) -> u8 {
-    source(h, base, 1) | source(h, base, 2) | source(h, base, 3)
-}
-
-// The allocated locations with all values.
-fn locations(h: u8, base: u8) -> u8 {
-    allocated(h, base) | value(h, base, 1) | value(h, base, 2) | value(h, base, 3)
-}
-
-fn strongly_disjoint(g: u8, h: u8, w: World) -> bool {
-    if allocated(g, w.heap_base) & allocated(h, w.heap_base) != 0 {
-        return false;
-    }
-    let shared = locations(g, w.heap_base) & locations(h, w.heap_base);
-    shared & w.named == shared
-}
-
-// Whether the heap h is in node k's set.
-fn member(sets: &Sets, k: usize, h: usize) -> bool {
-    if NODES <= k {
-        return false;
-    }
-    if HEAPS <= h {
-        return false;
-    }
-    sets[HEAPS * k + h] == 1
-}
-
-// Puts the heap h into node k's set.
-fn add(sets: &mut Sets, k: usize, h: usize) {
-    if NODES <= k {
-        return;
-    }
-    if HEAPS <= h {
-        return;
-    }
-    sets[HEAPS * k + h] = 1;
-}
-
-// A walk along a heap: where it stands, and the locations that it has left.
+// A heap: digit l is 0 where location l is free, and else the value there plus 1.
 #[derive(Clone, Copy)]
-struct Walk {
-    at: u8,
-    left: u8,
+pub struct Heap {
+    digits: Digits,
 }
 
-// One link on, unless the walk is at y or there is no link.
-fn step(t: Walk, h: u8, base: u8, y: u8) -> Walk {
-    let d = digit(h, base, t.at);
-    if t.at == y {
-        return t;
+impl Heap {
+    // The heap's number: of two strongly disjoint heaps together it is the sum of theirs.
+    fn number(self) -> usize
+        ensures { result ≤ 255 }
+    {
+        usize::from(self.digits.number)
     }
-    if d == 0 {
-        return t;
+
+    // The value at location l where it is allocated.
+    fn value(self, l: u8) -> Option<u8> {
+        self.digits.digit(l).checked_sub(1)
     }
-    Walk {
-        at: d - 1,
-        left: t.left | bit(t.at),
+
+    // The allocated locations.
+    fn allocated(self) -> u8 {
+        let mut all = 0;
+        for l in 1..=LOCATIONS {
+            if self.value(l).is_some() {
+                all |= bit(l);
+            }
+        }
+        all
+    }
+
+    // The allocated locations with all values.
+    fn locations(self) -> u8 {
+        let mut all = self.allocated();
+        for l in 1..=LOCATIONS {
+            if let Some(y) = self.value(l) {
+                all |= bit(y);
+            }
+        }
+        all
+    }
+
+    // A chain from x to y, and nothing besides: over three locations it has at most three links. The walk stays at y when it
+    // first gets there, so no location is met twice.
+    fn is_list(self, x: u8, y: u8) -> bool {
+        let mut at = x;
+        let mut left = 0;
+        for _ in 0..LOCATIONS {
+            if at != y
+                && let Some(next) = self.value(at)
+            {
+                left |= bit(at);
+                at = next;
+            }
+        }
+        at == y && left == self.allocated()
+    }
+
+    // Whether a path of more than p links starts at l: each goes on to a location that is not on the path.
+    fn is_long_from(self, l: u8, p: u8) -> bool {
+        let mut at = l;
+        let mut met = bit(l);
+        for _ in 0..=p {
+            let Some(next) = self.value(at) else {
+                return false;
+            };
+            if met & bit(next) != 0 {
+                return false;
+            }
+            met |= bit(next);
+            at = next;
+        }
+        true
+    }
+
+    // Whether no path has more than p links.
+    fn is_short(self, p: u8) -> bool {
+        !(1..=LOCATIONS).any(|l| self.is_long_from(l, p))
     }
 }
 
-// A chain from x to y, and nothing besides: over three locations it has at most three links. The walk stays at y when it first
-// gets there, so no location is met twice.
-fn is_list(x: u8, y: u8, h: u8, w: World) -> bool {
-    let base = w.heap_base;
-    let links: u8 = 3;
-    let mut t = Walk { at: x, left: 0 };
-    for _ in 0..links {
-        t = step(t, h, base, y);
+impl Atom {
+    // Whether the heap h fits the atom over x and y.
+    fn fits(self, x: u8, y: u8, h: Heap) -> bool {
+        match self {
+            Atom::Equal => x == y && h.number() == 0,
+            Atom::Different => x != y && h.number() == 0,
+            Atom::PointsTo => x != 0 && h.allocated() == bit(x) && h.value(x) == Some(y),
+            Atom::List => h.is_list(x, y),
+        }
     }
-    t.at == y && t.left == allocated(h, base)
 }
 
-// A path along a heap: where it ends, the locations on it, and whether it had a link to go on at every step.
+impl Connective {
+    fn holds(self, a: bool, b: bool) -> bool {
+        match self {
+            Connective::And => a && b,
+            Connective::Or => a || b,
+            Connective::AndNot => a && !b,
+            Connective::Not => !a,
+        }
+    }
+}
+
+// The bounds and the stack, as every node of the formula sees them; bit l of `named` is for the named location l.
 #[derive(Clone, Copy)]
-struct Path {
-    at: u8,
-    met: u8,
-    whole: bool,
+pub struct World {
+    bounds: Bounds,
+    stack: Digits,
+    named: u8,
 }
 
-// One link on, to a location that is not on the path.
-fn follow(t: Path, h: u8, base: u8) -> Path {
-    let d = digit(h, base, t.at);
-    if d == 0 {
-        return Path {
-            at: t.at,
-            met: t.met,
-            whole: false,
+impl World {
+    // The numbers of stacks are below it.
+    pub const STACKS: u8 = 64;
+
+    // The world of the stack with this number, where it is one within these bounds: it has no digit beyond the variables.
+    pub fn new(bounds: Bounds, number: u8) -> Option<World> {
+        let stack = Digits {
+            number,
+            base: stack_base(bounds.locations),
         };
+        if !bounds.can_judge() || stack.above(bounds.variables) != 0 {
+            return None;
+        }
+        let mut named = bit(0);
+        for x in 1..=bounds.variables {
+            named |= bit(stack.digit(x));
+        }
+        Some(World {
+            bounds,
+            stack,
+            named,
+        })
     }
-    Path {
-        at: d - 1,
-        met: t.met | bit(d - 1),
-        whole: t.whole && t.met & bit(d - 1) == 0,
+
+    // The location of the variable x.
+    fn value(self, x: u8) -> u8 {
+        self.stack.digit(x)
     }
-}
 
-// Whether a path of p + 1 links starts at l.
-fn is_long_from(l: u8, h: u8, w: World) -> bool {
-    let base = w.heap_base;
-    let path = w.path;
-    let mut t = Path {
-        at: l,
-        met: bit(l),
-        whole: true,
-    };
-    for _ in 0..=path {
-        t = follow(t, h, base);
-    }
-    t.whole
-}
-
-// Whether no path has more than p links.
-fn is_short(h: u8, w: World) -> bool {
-    !is_long_from(1, h, w) && !is_long_from(2, h, w) && !is_long_from(3, h, w)
-}
-
-fn atom_fits(op: u8, x: u8, y: u8, h: u8, w: World) -> bool {
-    match op {
-        1 => x == y && h == 0,
-        2 => x != y && h == 0,
-        3 => x != 0 && allocated(h, w.heap_base) == bit(x) && value(h, w.heap_base, x) == bit(y),
-        _ => is_list(x, y, h, w),
-    }
-}
-
-fn fill_atom(sets: &mut Sets, k: usize, op: u8, x: u8, y: u8, w: World) {
-    let heaps = w.heaps;
-    for h in 0..heaps {
-        if atom_fits(op, x, y, h, w) {
-            add(sets, k, wide(h));
+    // How many heaps there are, (n + 2)^n.
+    pub fn heaps(self) -> u8 {
+        match self.bounds.locations {
+            0 => 1,
+            1 => 3,
+            2 => 16,
+            _ => 125,
         }
     }
-}
 
-fn connects(op: u8, a: bool, b: bool) -> bool {
-    match op {
-        5 => a && b,
-        6 => a || b,
-        7 => a && !b,
-        _ => !a,
-    }
-}
-
-fn fill_connective(sets: &mut Sets, k: usize, op: u8, a: usize, b: usize, w: World) {
-    let heaps = w.heaps;
-    for h in 0..heaps {
-        if connects(op, member(sets, a, wide(h)), member(sets, b, wide(h))) {
-            add(sets, k, wide(h));
+    // The heap with this number.
+    pub fn heap(self, number: u8) -> Heap {
+        Heap {
+            digits: Digits {
+                number,
+                base: stack_base(self.bounds.locations) + 1,
+            },
         }
     }
-}
 
-// Node k is a * b: g fits a, so g fits k together with each heap of b's set that is strongly disjoint from it.
-fn fill_with(sets: &mut Sets, k: usize, g: u8, b: usize, w: World) {
-    let heaps = w.heaps;
-    for h in 0..heaps {
-        if member(sets, b, wide(h)) && strongly_disjoint(g, h, w) {
-            add(sets, k, wide(g) + wide(h));
-        }
+    fn are_strongly_disjoint(self, g: Heap, h: Heap) -> bool {
+        let shared = g.locations() & h.locations();
+        g.allocated() & h.allocated() == 0 && shared & self.named == shared
     }
 }
 
-// Node k is the septraction of a and b: g fits a, so k is fitted by each heap that is strongly disjoint from g and is in b's set
-// together with it.
-fn fill_without(sets: &mut Sets, k: usize, g: u8, b: usize, w: World) {
-    let heaps = w.heaps;
-    for h in 0..heaps {
-        if member(sets, b, wide(g) + wide(h)) && strongly_disjoint(g, h, w) {
-            add(sets, k, wide(h));
-        }
-    }
+// The sets of all nodes of a formula in one world: whether each heap fits each node, the root being the last.
+#[derive(Drop)]
+pub struct Sets {
+    world: World,
+    root: usize,
+    fit: [[bool; HEAPS]; NODES],
 }
 
-fn fill_pairs(sets: &mut Sets, k: usize, op: u8, a: usize, b: usize, w: World) {
-    let heaps = w.heaps;
-    for g in 0..heaps {
-        if member(sets, a, wide(g)) {
-            if op == 9 {
-                fill_with(sets, k, g, b, w);
-            } else {
-                fill_without(sets, k, g, b, w);
+impl Sets {
+    // The sets of the nodes of the formula f, a node's after its children's.
+    pub fn of(f: &[u8], world: World) -> Sets {
+        let mut sets = Sets {
+            world,
+            root: (f.len() / 3).saturating_sub(1),
+            fit: [[false; HEAPS]; NODES],
+        };
+        for (k, bytes) in f.chunks_exact(3).enumerate() {
+            if let Some(node) = Node::read(bytes) {
+                sets.fill(k, node);
+            }
+        }
+        sets
+    }
+
+    // Whether the heap with number h is in node k's set.
+    fn has(&self, k: usize, h: usize) -> bool {
+        k < NODES && h < HEAPS && self.fit[k][h]
+    }
+
+    // Puts the heap with number h into node k's set.
+    fn add(&mut self, k: usize, h: usize) {
+        if k < NODES && h < HEAPS {
+            self.fit[k][h] = true;
+        }
+    }
+
+    // Fills node k's set, which comes from its children's.
+    fn fill(&mut self, k: usize, node: Node) {
+        let w = self.world;
+        for number in 0..w.heaps() {
+            let h = w.heap(number);
+            match node {
+                Node::Atom(atom, x, y) => {
+                    if atom.fits(w.value(x), w.value(y), h) {
+                        self.add(k, h.number());
+                    }
+                }
+                Node::Connective(connective, a, b) => {
+                    if connective.holds(self.has(a, h.number()), self.has(b, h.number())) {
+                        self.add(k, h.number());
+                    }
+                }
+                Node::Star(a, b) => {
+                    if self.has(a, h.number()) {
+                        self.fill_star(k, h, b);
+                    }
+                }
+                Node::Septraction(a, b) => {
+                    if self.has(a, h.number()) {
+                        self.fill_septraction(k, h, b);
+                    }
+                }
             }
         }
     }
+
+    // Node k is a * b: g fits a, so g fits k together with each heap of b's set that is strongly disjoint from it.
+    fn fill_star(&mut self, k: usize, g: Heap, b: usize) {
+        let w = self.world;
+        for number in 0..w.heaps() {
+            let h = w.heap(number);
+            if self.has(b, h.number()) && w.are_strongly_disjoint(g, h) {
+                self.add(k, g.number() + h.number());
+            }
+        }
+    }
+
+    // Node k is the septraction of a and b: g fits a, so k is fitted by each heap that is strongly disjoint from g and is in b's
+    // set together with it.
+    fn fill_septraction(&mut self, k: usize, g: Heap, b: usize) {
+        let w = self.world;
+        for number in 0..w.heaps() {
+            let h = w.heap(number);
+            if self.has(b, g.number() + h.number()) && w.are_strongly_disjoint(g, h) {
+                self.add(k, h.number());
+            }
+        }
+    }
+
+    // Whether the heap h, as a model's, fits the root: it is in the root's set, and no path is too long.
+    pub fn fits(&self, h: Heap) -> bool {
+        self.has(self.root, h.number()) && h.is_short(self.world.bounds.path)
+    }
 }
 
-fn fill_node(sets: &mut Sets, k: usize, op: u8, a: u8, b: u8, w: World) {
-    match op {
-        0..=4 => fill_atom(
-            sets,
-            k,
-            op,
-            digit(w.stack, w.stack_base, a),
-            digit(w.stack, w.stack_base, b),
-            w,
-        ),
-        5..=8 => fill_connective(sets, k, op, wide(a), wide(b), w),
-        _ => fill_pairs(sets, k, op, wide(a), wide(b), w),
-    }
+// A model's bytes, 0 behind its end.
+#[derive(Clone, Copy)]
+pub struct Model {
+    pub bytes: [u8; MODEL],
+    size: usize,
+    ghost within: { size ≤ length bytes },
 }
 
-// Fills the sets of all nodes of the formula f, a node after its children.
-pub fn fill(sets: &mut Sets, f: &[u8], w: World) {
-    let mut i = 0;
-    let mut k = 0;
-    while i + 2 < f.len() {
-        fill_node(sets, k, f[i], f[i + 1], f[i + 2], w);
-        i += 3;
-        k += 1;
+impl Model {
+    // The model with the stack of w and the heap h.
+    pub fn new(w: World, h: Heap) -> Model {
+        let mut model = Model {
+            bytes: [0; MODEL],
+            size: 0,
+        };
+        for x in 1..=w.bounds.variables {
+            model.push(w.value(x));
+        }
+        for l in 1..=w.bounds.locations {
+            model.push(h.value(l).unwrap_or(255));
+        }
+        model
     }
-}
 
-// Whether the heap h, as a model's, fits node k: it is in the node's set, and no path is too long.
-pub fn fits(sets: &Sets, k: usize, h: u8, w: World) -> bool {
-    member(sets, k, wide(h)) && is_short(h, w)
-}
+    // Adds the byte if there is room.
+    fn push(&mut self, byte: u8) {
+        if self.size < MODEL {
+            self.bytes[self.size] = byte;
+            self.size += 1;
+        }
+    }
 
-// Byte i of the model with this stack and heap, v variables and n locations; 0 behind its end.
-fn model_byte(v: u8, n: u8, w: World, h: u8, i: u8) -> u8 {
-    if i < v {
-        return digit(w.stack, w.stack_base, i + 1);
+    pub fn as_slice(&self) -> &[u8] {
+        &self.bytes[..self.size]
     }
-    if n <= i - v {
-        return 0;
-    }
-    let d = digit(h, w.heap_base, i - v + 1);
-    if d == 0 {
-        return 255;
-    }
-    d - 1
-}
-
-// The model with this stack and heap, its bytes at the front.
-pub fn model_of(v: u8, n: u8, w: World, h: u8) -> [u8; MODEL] {
-    let mut model = [0u8; MODEL];
-    for i in 0..MODEL {
-        model[i] = model_byte(v, n, w, h, i as u8);
-    }
-    model
 }

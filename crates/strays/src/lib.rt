@@ -9,21 +9,20 @@ ghost use Rattle.logic.specs.Tests.{in_part};
 ghost use Rattle.logic.specs.Table.{NodeOk, Sound};
 ghost use Rattle.logic.specs.Book.{most, nodes};
 ghost use Rattle.logic.specs.Strays.{NamedByAtom, name_checks};
+ghost use Rattle.leaves.specs.Refusals.{outcome};
 ghost use Rattle.strays.specs.Marks.{NamesAt, Marks};
 
 use cells::bit;
-use leaves::{answer_of, long};
-use logic::Answer;
+use leaves::Refusal;
 
 // Bit x for each variable x that node k names.
 fn marks_of(f: &[u8], v: u64, k: usize) -> u64
     requires { (3 * k + 2 < length f.now) × NodeOk v f.now k × (v ≤ most) }
     ensures { Marks (NamesAt f.now k) result }
 {
-    let op = f[3 * k];
-    let a = long(f[3 * k + 1]);
-    let b = long(f[3 * k + 2]);
-    match op {
+    let a = u64::from(f[3 * k + 1]);
+    let b = u64::from(f[3 * k + 2]);
+    match f[3 * k] {
         1..=4 => bit(a) | bit(b),
         _ => 0,
     }
@@ -34,12 +33,9 @@ pub fn marks(f: &[u8], v: u64) -> u64
     requires { Sound v f.now (nodes f.now) × (v ≤ most) }
     ensures { Marks (NamedByAtom f.now) result }
 {
-    let n = f.len() / 3;
     let mut m: u64 = 0;
-    let mut k: usize = 0;
-    while k < n {
-        m = m | marks_of(f, v, k);
-        k += 1;
+    for k in 0..f.len() / 3 {
+        m |= marks_of(f, v, k);
     }
     m
 }
@@ -51,20 +47,16 @@ fn is_marked(m: u64, x: u64) -> bool
     (m >> x) % 2 == 1
 }
 
-// Whether an atom names each of the variables 1 to v: number 0, or 25 with the lowest that none names.
-pub fn named(f: &[u8], v: u64) -> Answer
+// Whether an atom names each of the variables 1 to v; if not, the lowest that none names is refused.
+pub fn named(f: &[u8], v: u64) -> Result<(), Refusal>
     requires { Sound v f.now (nodes f.now) × (v ≤ most) }
-    ensures { Answers (upto (name_checks f.now) v) Yes result }
+    ensures { Answers (upto (name_checks f.now) v) Yes (outcome result) }
 {
     let m = marks(f, v);
-    let mut left = v;
-    while 0 < left {
-        let i = v - left;
-        let x = i + 1;
+    for x in 1..=v {
         if !is_marked(m, x) {
-            return answer_of(logic::STRAY_VARIABLE, x as usize);
+            return Err(Refusal::StrayVariable(x as usize));
         }
-        left -= 1;
     }
-    answer_of(logic::YES, 0)
+    Ok(())
 }

@@ -1,5 +1,5 @@
 -- Laws of the way through a range: where it starts, one step of it, and how it ends. Assumes nothing.
-use Rattle.std.specs.Prelude.{◌≡◌, Bool, true, false, ℕ, ◌%◌, ◌<◌, ◌≤◌}
+use Rattle.std.specs.Prelude.{◌≡◌, ℕ, ◌%◌, ◌<◌, ◌≤◌, None, Some}
 use Rattle.std.proofs.Common.{sym, ◌∙◌, ap, ap₂, mod-eq_of_lt, arith}
 use Rattle.std.proofs.Math.Path.{subst, subst₂}
 use Rattle.std.proofs.Math.Decide.{dec_lt}
@@ -8,14 +8,13 @@ use Rattle.logic.specs.Tests.{heap_of}
 use Rattle.logic.specs.Candidates.{total, stack_of, number_of}
 use Rattle.logic.proofs.CandidateLaws.{stack_of_number, heap_of_its_number}
 use Rattle.logic.specs.Search.{Lowest}
-use Rattle.logic.proofs.Reflect.{false_true}
 use Rattle.cells.specs.Cells.{cells}
 use Rattle.candidates.specs.declared.Candidate.{Candidate}
 use Rattle.candidates.specs.Counter.{WithinBounds, number, Passes}
-use Rattle.skips.specs.Ranges.{Passed, FitInRange, Gives, reply_of}
+use Rattle.skips.specs.Ranges.{Passed, FitInRange, Gives}
 use Rattle.skips.specs.Blocks.{weight, after, Skippable}
 use Rattle.skips.proofs.BlockLaws.{in_block, after_above, weight_some, block_whole_stack}
-use Rattle.sweep.specs.declared.Stretch.{Stretch}
+use Rattle.sweep.specs.declared.Found.{Found}
 use Rattle.sweep.specs.Sweep.{At, Going, Given}
 
 -- ---- the stack and the heap of a candidate are those of its number
@@ -71,25 +70,17 @@ module _ (v n : ℕ) (P : ℕ → Type 0) (from to : ℕ) where
         go y a b k q m z (yes u) = g.passed i (omega arith) (omega arith) k q u z
         go y a b k q m z (no u) = f k (omega arith) (omega arith) (omega arith) z
 
-    pub given_found : to ≤ total v n → P i → (r : Stretch) → r.found ≡ true → r.number ≡ i → r.at ≡ c → Given v n P from to r
+    pub given_found : to ≤ total v n → P i → Given v n P from to (Some (record { number = i; at = c }))
     unfolding Gives
-    given_found h y r ef en ea =
-        record {
-          reply = subst (λ (b : Bool). Gives P (total v n) from to (reply_of b r.number)) (sym ef) (subst (FitInRange P (total v n) from to) (sym en) fit);
-          at = λ _. subst₂ (At v n) (sym en) (sym ea) going_at;
-        }
+    given_found h y = record { reply = fit; at = going_at }
       where
         fit : FitInRange P (total v n) from to i
         fit = record { from_on = g.from_on; before = l; candidate = omega arith; fits = y; passed = g.passed i (omega arith) (omega arith) }
 
   -- nothing is given back where the whole range was passed
-  pub given_nothing : Passed P (total v n) from to → (r : Stretch) → r.found ≡ false → Given v n P from to r
+  pub given_nothing : Passed P (total v n) from to → Given v n P from to None
   unfolding Gives
-  given_nothing q r e =
-      record {
-        reply = subst (λ (b : Bool). Gives P (total v n) from to (reply_of b r.number)) (sym e) q;
-        at = λ y. false_true (sym e ∙ y);
-      }
+  given_nothing q = record { reply = q; at = tt }
 
   pub going_past : (i : ℕ) (c : Candidate) → Going v n P from to i c → to ≤ i → Passed P (total v n) from to
   going_past i c g l = g.passed to l (omega arith)
@@ -98,30 +89,35 @@ module _ (v n : ℕ) (P : ℕ → Type 0) (from to : ℕ) where
   pub passed_block : (w : ℕ) → 0 < w → Skippable P (total v n) w from → to ≤ after w from → Passed P (total v n) from to
   passed_block w p f h k a b = f k (in_block P 0 w from p k a (omega arith))
 
+-- the number after a block is higher
+pub number_rises : (n j i r : ℕ) → r ≡ after (weight n j) i → i < r
+number_rises n j i r e = omega (arith, after_above (λ _. Unit {0}) 0 (weight n j) i (weight_some n j), e)
+
 -- ---- a piece of the range, from i to m
 
-module _ (v n : ℕ) (P : ℕ → Type 0) (i m : ℕ) (r : Stretch) (q : Given v n P i m r) where
-  pub piece_passed : r.found ≡ false → Passed P (total v n) i m
+module _ (v n : ℕ) (P : ℕ → Type 0) (i m : ℕ) where
+  pub piece_passed : Given v n P i m None → Passed P (total v n) i m
   unfolding Gives
-  piece_passed e = subst (λ (b : Bool). Gives P (total v n) i m (reply_of b r.number)) e q.reply
+  piece_passed q = q.reply
 
-  pub piece_fit : r.found ≡ true → FitInRange P (total v n) i m r.number
+module _ (v n : ℕ) (P : ℕ → Type 0) (i m : ℕ) (r : Found) (q : Given v n P i m (Some r)) where
+  pub piece_fit : FitInRange P (total v n) i m r.number
   unfolding Gives
-  piece_fit e = subst (λ (b : Bool). Gives P (total v n) i m (reply_of b r.number)) e q.reply
+  piece_fit = q.reply
 
   -- what a piece gives back is what the whole does
-  pub piece_found : (from to : ℕ) (c : Candidate) → Going v n P from to i c → i < to → m ≤ to → r.found ≡ true → Given v n P from to r
+  pub piece_found : (from to : ℕ) (c : Candidate) → Going v n P from to i c → i < to → m ≤ to → Given v n P from to (Some r)
   unfolding Gives
-  piece_found from to c g l h e =
-      let x = piece_fit e in
+  piece_found from to c g l h =
+      let x = piece_fit in
       record {
-        reply = subst (λ (b : Bool). Gives P (total v n) from to (reply_of b r.number)) (sym e) (record {
+        reply = record {
           from_on = omega (arith, g.from_on, x.from_on);
           before = omega (arith, x.before);
           candidate = x.candidate;
           fits = x.fits;
           passed = λ k a b z. go x k a b z (dec_lt k i);
-        });
+        };
         at = q.at;
       }
     where

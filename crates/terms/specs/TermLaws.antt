@@ -1,5 +1,5 @@
 -- What is read of a term letter by letter is what the machine does with it. Assumes nothing.
-use Rattle.std.specs.Prelude.{◌≡◌, Bool, ℕ, suc, ◌+◌, ◌*◌, ◌-◌, ◌≤◌, ◌<◌, eqb, leb, length}
+use Rattle.std.specs.Prelude.{◌≡◌, Bool, Option, None, Some, Result, Ok, Err, ℕ, suc, ◌+◌, ◌*◌, ◌-◌, ◌≤◌, ◌<◌, eqb, leb, length}
 use Rattle.std.proofs.Math.Path.{refl, ap}
 use Rattle.std.proofs.Common.{sym, ◌∙◌, subst, inl, inr, ⊎_elim, add-one, length-append}
 use Rattle.std.proofs.Math.Bool.{true, false}
@@ -21,12 +21,10 @@ use Rattle.grammar.specs.Machine.{Frame, Spot, start, later, arg, name, nil, dea
 use Rattle.grammar.specs.Forward.{Behind}
 use Rattle.grammar.proofs.Forward.{spells_nil, run_name, run_nil}
 use Rattle.words.specs.Words.{SpelledIs}
-use Rattle.words.specs.declared.Next.TheVariants.{At, Bad}
+use Rattle.words.specs.declared.BadText.{BadText}
 use Rattle.words.specs.Stops.{stops, nil_misses}
 use Rattle.terms.specs.Letters.{packed, letters_in, letters_of, term_of}
 use Rattle.terms.specs.LetterLaws.{full_name, letters_more, packed_letters, letters_word, viable_over}
-use Rattle.terms.specs.declared.Found.{Found}
-use Rattle.terms.specs.declared.Found.TheVariants.{Term as Reads, Wrong}
 use Rattle.terms.specs.Terms.{last_of, LettersIs, EndsIs, NilIs, EndedIs, TermIs}
 
 -- ---- letters
@@ -141,58 +139,58 @@ module _ (s : List ℕ) where
     unfolding step alive ending
     nil_unended t σ j l f = stops s (nil [] t σ) j l (λ b q. let e = ending_byte nil_term t σ b j f q in rw (e.0, e.1)) (λ m. refl)
 
-    pub nil_found : (j : ℕ) → SpelledIs s (bytes "nil") i (At j) → EndsIs s last j true → NilIs s last i (Reads j 0)
-    nil_found j k e = (three k.0, k.2, refl, λ t h σ. spells_nil s t σ k.0 ∙ run_nil s t σ j ((e t h).to refl))
+    pub nil_found : (j : ℕ) → SpelledIs s (bytes "nil") i (Ok j) → EndsIs s last j true → NilIs s last i (Ok j)
+    nil_found j k e = (three k.0, k.2, λ t h σ. spells_nil s t σ k.0 ∙ run_nil s t σ j ((e t h).to refl))
       where
         three : {i j : ℕ} → Spelt s (bytes "nil") i j → i < j
         three (one_more q (one_more r (one_more u no_more))) = omega arith
 
-    pub nil_open : (j : ℕ) → SpelledIs s (bytes "nil") i (At j) → EndsIs s last j false → NilIs s last i (Wrong j)
+    pub nil_open : (j : ℕ) → SpelledIs s (bytes "nil") i (Ok j) → EndsIs s last j false → NilIs s last i (Err (record { at = j }))
     nil_open j k e t h σ = spells_nil s t σ k.0 ∙ nil_unended t σ j k.2 (fails false (e t h) refl)
 
-    pub nil_missed : (p : ℕ) → SpelledIs s (bytes "nil") i (Bad p) → NilIs s last i (Wrong p)
+    pub nil_missed : (p : BadText) → SpelledIs s (bytes "nil") i (Err p) → NilIs s last i (Err p)
     nil_missed p k t h σ = nil_misses s t σ k.0 k.1
 
   -- ---- behind the letters
 
   module _ (last : Bool) (w i : ℕ) (l : i < length s) (e : letter (get_or s i 0) ≡ false) where
-    pub dot_wrong : get_or s i 0 ≡ 46 → ¬ (w ≡ packed (spelling (joins sep_word))) → EndedIs s last w i (Wrong i)
+    pub dot_wrong : get_or s i 0 ≡ 46 → ¬ (w ≡ packed (spelling (joins sep_word))) → EndedIs s last w i (Err (record { at = i }))
     unfolding step alive
     dot_wrong d f t h σ =
         let n : same_bytes (spelling (joins sep_word)) (letters_of w) ≡ false = refutes (same_bytes (spelling (joins sep_word)) (letters_of w)) (is_same_bytes (spelling (joins sep_word)) (letters_of w)) (λ q. f (sym (packed_letters w) ∙ ap packed (sym q))) in
         looks s (name (letters_of w) t σ) (l, d) ∙ rw n
 
-    pub dot_nil : get_or s i 0 ≡ 46 → w ≡ packed (spelling (joins sep_word)) → (r : Found) → NilIs s last (i + 1) r → EndedIs s last w i r
+    -- behind the dot of `sep`
+    dot : get_or s i 0 ≡ 46 → w ≡ packed (spelling (joins sep_word)) → (t : Spot) (σ : List Frame) → onward s (name (letters_of w) t σ) i ≡ onward s (nil (bytes "nil") t σ) (i + 1)
     unfolding step out alive emits
-    dot_nil d f r k = go r (subst (λ (j : ℕ). NilIs s last j r) (add-one i) k)
-      where
-        dot : (t : Spot) (σ : List Frame) → onward s (name (letters_of w) t σ) i ≡ onward s (nil (bytes "nil") t σ) (suc i)
-        dot t σ =
-            let n : same_bytes (spelling (joins sep_word)) (letters_of w) ≡ true = (is_same_bytes (spelling (joins sep_word)) (letters_of w)).from (sym (letters_word (joins sep_word) w f)) in
-            goes_still s (name (letters_of w) t σ) (nil (bytes "nil") t σ) (l, d) (rw n) refl refl
+    dot d f t σ =
+        let n : same_bytes (spelling (joins sep_word)) (letters_of w) ≡ true = (is_same_bytes (spelling (joins sep_word)) (letters_of w)).from (sym (letters_word (joins sep_word) w f)) in
+        goes_still s (name (letters_of w) t σ) (nil (bytes "nil") t σ) (l, d) (rw n) refl refl ∙ ap (onward s (nil (bytes "nil") t σ)) (sym (add-one i))
 
-        go : (r : Found) → NilIs s last (suc i) r → EndedIs s last w i r
-        go (Reads j x) (lo, hi, z, q) =
-            (omega arith, hi, λ t h σ. dot t σ ∙ q t h σ ∙ ap (λ (y : ℕ). emits (seen (term_of y) (i - length (letters_of w)) j) (onward s (termed (term_of y) t σ) j)) (sym z))
-        go (Wrong p) q = λ t h σ. dot t σ ∙ q t h σ
+    pub dot_nil : get_or s i 0 ≡ 46 → w ≡ packed (spelling (joins sep_word)) → (j : ℕ) → NilIs s last (i + 1) (Ok j) → EndedIs s last w i (Ok (j, None))
+    unfolding emits
+    dot_nil d f j (lo, hi, q) = (omega arith, hi, λ t h σ. dot d f t σ ∙ q t h σ)
 
-    pub word_wrong : ¬ (get_or s i 0 ≡ 46) → reserved (letters_of w) ≡ true → EndedIs s last w i (Wrong i)
+    pub dot_missed : get_or s i 0 ≡ 46 → w ≡ packed (spelling (joins sep_word)) → (p : BadText) → NilIs s last (i + 1) (Err p) → EndedIs s last w i (Err p)
+    dot_missed d f p q t h σ = dot d f t σ ∙ q t h σ
+
+    pub word_wrong : ¬ (get_or s i 0 ≡ 46) → reserved (letters_of w) ≡ true → EndedIs s last w i (Err (record { at = i }))
     unfolding step alive
     word_wrong d r t h σ = looks s (name (letters_of w) t σ) (l, refl) ∙ rw (e, ne_eqb (get_or s i 0) 46 d, r)
 
-    pub open_wrong : ¬ (get_or s i 0 ≡ 46) → reserved (letters_of w) ≡ false → EndsIs s last i false → EndedIs s last w i (Wrong i)
+    pub open_wrong : ¬ (get_or s i 0 ≡ 46) → reserved (letters_of w) ≡ false → EndsIs s last i false → EndedIs s last w i (Err (record { at = i }))
     unfolding step alive
     open_wrong d r f t h σ =
         let k = ending_byte (name_term (letters_of w)) t σ (get_or s i 0) i (fails false (f t h) refl) (l, refl) in
         looks s (name (letters_of w) t σ) (l, refl) ∙ rw (e, ne_eqb (get_or s i 0) 46 d, r, k.0, k.1)
 
-    pub name_ended : 0 < w → reserved (letters_of w) ≡ false → EndsIs s last i true → EndedIs s last w i (Reads i w)
+    pub name_ended : 0 < w → reserved (letters_of w) ≡ false → EndsIs s last i true → EndedIs s last w i (Ok (i, Some w))
     name_ended z r f =
-        (omega arith, omega arith, λ t h σ. rw (ne_eqb w 0 (λ q. omega arith)) (run_name s (letters_of w) t σ i r ((f t h).to refl)))
+        (omega arith, omega arith, λ t h σ. run_name s (letters_of w) t σ i r ((f t h).to refl))
 
   -- ---- a term
 
-  pub no_term : (last : Bool) (i : ℕ) → i ≤ length s → ((b : ℕ) → Byte s b i → (blank b ≡ false) × (lower b ≡ false)) → TermIs s last i (Wrong i)
+  pub no_term : (last : Bool) (i : ℕ) → i ≤ length s → ((b : ℕ) → Byte s b i → (blank b ≡ false) × (lower b ≡ false)) → TermIs s last i (Err (record { at = i }))
   unfolding step alive ending
   no_term last i l f t h σ = stops s (arg t σ) i l (λ b q. let e = f b q in rw (e.0, e.1)) (λ m. refl)
 
@@ -210,11 +208,11 @@ module _ (s : List ℕ) where
         goes_still s (arg t σ) (name (get_or s i 0 ∷ []) t σ) (l, refl) (rw (n, e)) refl refl
         ∙ ap (λ (y : List ℕ). onward s (name y t σ) (suc i)) (sym one_letter) ∙ ap (onward s (name (letters_of (get_or s i 0)) t σ)) (sym (add-one i))
 
-    pub term_wrong : (last : Bool) (p : ℕ) → LettersIs s (get_or s i 0) (i + 1) (Wrong p) → TermIs s last i (Wrong p)
+    pub term_wrong : (last : Bool) (p : BadText) → LettersIs s (get_or s i 0) (i + 1) (Err p) → TermIs s last i (Err p)
     term_wrong last p q t h σ = begins t σ ∙ q t σ
 
-    pub term_ended : (last : Bool) (w j : ℕ) (r : Found) → LettersIs s (get_or s i 0) (i + 1) (Reads j w) → EndedIs s last w j r → TermIs s last i r
-    term_ended last w j (Reads k x) (lo, hi, some, end, long, q) (from, upto, f) =
+    pub term_ended : (last : Bool) (w j : ℕ) (r : Result (ℕ × Option ℕ) BadText) → LettersIs s (get_or s i 0) (i + 1) (Ok (j, w)) → EndedIs s last w j r → TermIs s last i r
+    term_ended last w j (Ok (k, x)) (lo, hi, some, end, long, q) (from, upto, f) =
         let first : j - length (letters_of w) ≡ i = omega (arith, long, ap length one_letter) in
         (omega arith, upto, λ t h σ. begins t σ ∙ q t σ ∙ f t h σ ∙ ap (λ (m : ℕ). emits (seen (term_of x) m k) (onward s (termed (term_of x) t σ) k)) first)
-    term_ended last w j (Wrong p) (lo, hi, some, end, long, q) f = λ t h σ. begins t σ ∙ q t σ ∙ f t h σ
+    term_ended last w j (Err p) (lo, hi, some, end, long, q) f = λ t h σ. begins t σ ∙ q t σ ∙ f t h σ

@@ -4,125 +4,97 @@
 ghost use Rattle.std.specs.Prelude.{◌≤◌, ◌<◌};
 ghost use Rattle.logic.specs.Table.{tree, join_of};
 ghost use Rattle.logic.specs.Book.{nodes, KnownTable};
+ghost use Rattle.rowbytes.specs.Written.{Kept};
 ghost use Rattle.ownrows.specs.Encoded.{Room, Encoded};
-ghost use Rattle.treerows.specs.Trees.{Trees as TreesPut, RoomTrees};
+ghost use Rattle.treerows.specs.Trees.{Trees, RoomTrees};
 
-use leaves::{short, wide};
 use logic::Profile;
 use ownrows::{put_atom, put_but, put_sep, put_sept};
-use rowbytes::{put_and, put_not, put_or};
+use rowbytes::Writer;
 use rows::Next;
 
-// The row after a's tree, and what comes after b's.
+// What is encoded: a formula over n locations, in a profile.
 #[derive(Clone, Copy)]
-pub struct Trees {
-    pub first: u16,
-    pub next: Next,
+pub struct Source<'a> {
+    pub profile: Profile,
+    pub formula: &'a [u8],
+    pub n: u8,
 }
 
-// Writes the rows of node k over array a and set s.
-#[cycle(both_join_node)]
-pub fn node(
-    out: &mut [u8],
-    profile: Profile,
-    f: &[u8],
-    n: u8,
-    k: usize,
-    a: u16,
-    s: u16,
-    st: Next,
-) -> Next
-    requires { (k < nodes f.now) × (n < 255) × KnownTable f.now × Room profile n (tree f.now k) st out.old }
-    ensures { Encoded profile n (tree f.now k) a s st result out.old out.new }
-{
-    let op = f[3 * k];
-    let x = f[3 * k + 1];
-    let y = f[3 * k + 2];
-    match op {
-        1..=4 => put_atom(out, op, short(x), short(y), n, a, s, st),
-        5..=10 => join(out, profile, f, n, k, op, wide(x), wide(y), a, s, st),
-        _ => st,
-    }
-}
-
-// Writes the rows of a connective over the nodes x and y.
-#[cycle(both_join_node)]
-fn join(
-    out: &mut [u8],
-    profile: Profile,
-    f: &[u8],
-    n: u8,
-    k: usize,
-    op: u8,
-    x: usize,
-    y: usize,
-    a: u16,
-    s: u16,
-    st: Next,
-) -> Next
-    requires { (k < nodes f.now) × (x < k) × (y < k) × (5 ≤ op) × (op ≤ 10) × (n < 255) × KnownTable f.now × Room profile n (join_of op (tree f.now x) (tree f.now y)) st out.old }
-    ensures { Encoded profile n (join_of op (tree f.now x) (tree f.now y)) a s st result out.old out.new }
-{
-    match op {
-        5 => {
-            let t = both(out, profile, f, n, k, x, y, a, s, s, st);
-            put_and(out, t.next, t.first - 1, t.next.row - 1)
-        }
-        6 => {
-            let t = both(out, profile, f, n, k, x, y, a, s, s, st);
-            put_or(out, t.next, t.first - 1, t.next.row - 1)
-        }
-        7 => {
-            let t = both(out, profile, f, n, k, x, y, a, s, s, st);
-            put_but(out, t.next, t.first)
-        }
-        8 => {
-            let t = node(out, profile, f, n, x, a, s, st);
-            put_not(out, t, t.row - 1)
-        }
-        9 => {
-            let i = st.set;
-            let new = Next {
-                row: st.row,
-                array: st.array,
-                set: i + 2,
-            };
-            let t = both(out, profile, f, n, k, x, y, a, i, i + 1, new);
-            put_sep(out, profile, t.next, t.first, a, s, i)
-        }
-        _ => {
-            let i = st.set;
-            let b = st.array;
-            let new = Next {
-                row: st.row,
-                array: b + 1,
-                set: i + 2,
-            };
-            let t = both(out, profile, f, n, k, x, y, b, i, i + 1, new);
-            put_sept(out, profile, t.next, t.first, a, b, s, i)
+impl Source<'_> {
+    // Writes the rows of node k over array a and set s.
+    #[cycle(both_join_node)]
+    pub fn node(&self, w: &mut Writer, k: usize, a: u16, s: u16)
+        requires { (k < nodes self.now.formula.now) × (self.now.n < 255) × KnownTable self.now.formula.now × Room self.now.profile self.now.n (tree self.now.formula.now k) w.old.next w.old.out.now }
+        ensures kept { Kept w.old w.new }
+        ensures rows { Encoded self.now.profile self.now.n (tree self.now.formula.now k) a s w.old.next w.new.next w.old.out.now w.new.out.now }
+    {
+        let op = self.formula[3 * k];
+        let x = self.formula[3 * k + 1];
+        let y = self.formula[3 * k + 2];
+        match op {
+            1..=4 => put_atom(w, op, u16::from(x), u16::from(y), self.n, a, s),
+            5..=10 => self.join(w, k, op, usize::from(x), usize::from(y), a, s),
+            _ => {}
         }
     }
-}
 
-// Writes the rows of the nodes x and y, over one array and two sets.
-#[cycle(both_join_node)]
-fn both(
-    out: &mut [u8],
-    profile: Profile,
-    f: &[u8],
-    n: u8,
-    k: usize,
-    x: usize,
-    y: usize,
-    a: u16,
-    s: u16,
-    t: u16,
-    st: Next,
-) -> Trees
-    requires { (k < nodes f.now) × (x < k) × (y < k) × (n < 255) × KnownTable f.now × RoomTrees profile n (tree f.now x) (tree f.now y) st 0 out.old }
-    ensures { TreesPut profile n (tree f.now x) (tree f.now y) a s t st result.first result.next out.old out.new }
-{
-    let u = node(out, profile, f, n, x, a, s, st);
-    let next = node(out, profile, f, n, y, a, t, u);
-    Trees { first: u.row, next }
+    // Writes the rows of a connective over the nodes x and y.
+    #[cycle(both_join_node)]
+    fn join(&self, w: &mut Writer, k: usize, op: u8, x: usize, y: usize, a: u16, s: u16)
+        requires { (k < nodes self.now.formula.now) × (x < k) × (y < k) × (5 ≤ op) × (op ≤ 10) × (self.now.n < 255) × KnownTable self.now.formula.now × Room self.now.profile self.now.n (join_of op (tree self.now.formula.now x) (tree self.now.formula.now y)) w.old.next w.old.out.now }
+        ensures kept { Kept w.old w.new }
+        ensures rows { Encoded self.now.profile self.now.n (join_of op (tree self.now.formula.now x) (tree self.now.formula.now y)) a s w.old.next w.new.next w.old.out.now w.new.out.now }
+    {
+        let b = w.next.array;
+        let i = w.next.set;
+        match op {
+            5 => {
+                let first = self.both(w, k, x, y, a, s, s);
+                let last = w.next.row - 1;
+                w.put_and(first - 1, last);
+            }
+            6 => {
+                let first = self.both(w, k, x, y, a, s, s);
+                let last = w.next.row - 1;
+                w.put_or(first - 1, last);
+            }
+            7 => {
+                let first = self.both(w, k, x, y, a, s, s);
+                put_but(w, first);
+            }
+            8 => {
+                self.node(w, x, a, s);
+                let last = w.next.row - 1;
+                w.put_not(last);
+            }
+            9 => {
+                w.next.set = i + 2;
+                let first = self.both(w, k, x, y, a, i, i + 1);
+                put_sep(w, self.profile, first, a, s, i);
+            }
+            _ => {
+                w.next = Next {
+                    array: b + 1,
+                    set: i + 2,
+                    ..w.next
+                };
+                let first = self.both(w, k, x, y, b, i, i + 1);
+                put_sept(w, self.profile, first, a, b, s, i);
+            }
+        }
+    }
+
+    // Writes the rows of the nodes x and y, over one array and two sets; the row after those of x.
+    #[cycle(both_join_node)]
+    fn both(&self, w: &mut Writer, k: usize, x: usize, y: usize, a: u16, s1: u16, s2: u16) -> u16
+        requires { (k < nodes self.now.formula.now) × (x < k) × (y < k) × (self.now.n < 255) × KnownTable self.now.formula.now × RoomTrees self.now.profile self.now.n (tree self.now.formula.now x) (tree self.now.formula.now y) w.old.next 0 w.old.out.now }
+        ensures kept { Kept w.old w.new }
+        ensures rows { Trees self.now.profile self.now.n (tree self.now.formula.now x) (tree self.now.formula.now y) a s1 s2 w.old.next result w.new.next w.old.out.now w.new.out.now }
+    {
+        self.node(w, x, a, s1);
+        let first = w.next.row;
+        self.node(w, y, a, s2);
+        first
+    }
 }

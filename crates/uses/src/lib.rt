@@ -6,7 +6,6 @@ ghost use Rattle.logic.specs.Table.{NodeOk, Sound, uses};
 ghost use Rattle.logic.specs.Book.{most_nodes, nodes};
 ghost use Rattle.uses.specs.Counts.{OneMore, NodeMore};
 
-use leaves::wide;
 use logic::NODES;
 
 // The child x is used once more.
@@ -14,9 +13,7 @@ fn tally(t: &mut [u8], x: u8)
     requires { (x < length t.old) × (get_or t.old x 0 < 255) }
     ensures { OneMore t.old x t.new }
 {
-    let i = wide(x);
-    let c = t[i];
-    t[i] = c + 1;
+    t[usize::from(x)] += 1;
 }
 
 // Node j's children are used once more.
@@ -42,12 +39,9 @@ pub fn count(f: &[u8], v: u8) -> [u8; NODES]
     requires { (nodes f.now ≤ most_nodes) × Sound v f.now (nodes f.now) }
     ensures { (k : ℕ) → get_or result k 0 ≡ uses f.now (nodes f.now) k }
 {
-    let n = f.len() / 3;
     let mut t = [0u8; NODES];
-    let mut j: usize = 0;
-    while j < n {
+    for j in 0..f.len() / 3 {
         uses_by(f, v, j, &mut t);
-        j += 1;
     }
     t
 }

@@ -1,11 +1,12 @@
 -- What is read of a text byte by byte is what the machine does with it. Assumes nothing.
-use Rattle.std.specs.Prelude.{◌≡◌, Bool, false, not, ℕ, suc, ◌+◌, ◌-◌, ◌≤◌, ◌<◌, eqb, leb, ltb, get_or, drop}
+use Rattle.std.specs.Prelude.{◌≡◌, Bool, false, not, ℕ, suc, ◌+◌, ◌-◌, ◌≤◌, ◌<◌, None, Some, Result, Ok, Err, eqb, leb, get_or, take, drop}
 use Rattle.std.proofs.Math.Path.{refl, sym}
-use Rattle.std.proofs.Common.{ap, ◌∙◌, subst, ⊎_elim, eq-or-lt_of_le, add-one, arith, drop_of_length-le, drop-cons}
+use Rattle.std.proofs.Math.Seq.{take-length}
+use Rattle.std.proofs.Common.{ap, ◌∙◌, subst, ⊎_elim, eq-or-lt_of_le, add-one, arith, drop_of_length-le, length-drop, drop-cons}
 use Rattle.std.proofs.Math.Bool.{true}
 use mathlib.Core.List.{List, [], ◌∷◌}
-use Rattle.std.proofs.Math.ListN.{length, get_or-eq_default}
-use borrow.Author.Tests.{eq-eqb, ne_eqb, ltb-true, ltb-false, leb-true, lt-ltb, lt-leb}
+use Rattle.std.proofs.Math.ListN.{length}
+use borrow.Author.Tests.{eq-eqb, ne_eqb, leb-true, lt-leb}
 use Rattle.grammar.specs.Steps.{waits}
 use Rattle.grammar.specs.Steps.{onward}
 use Rattle.grammar.proofs.Steps.{looks, goes_still, skip_head, skip_shut}
@@ -20,10 +21,10 @@ use Rattle.grammar.specs.Grammar.{finished, blank, Byte, Spelt, Blanks, Edge}
 use Rattle.grammar.specs.Grammar.Spelt.{no_more, one_more}
 use Rattle.grammar.specs.Grammar.Blanks.{a_blank}
 use Rattle.grammar.specs.Grammar.Edge.{at_end, at_blank, at_open, at_close}
-use Rattle.grammar.specs.Machine.{Frame, only_one, first_of, second_of, item, gap, empty, head, word, shut, begun, past, own, step, out, bad, emits, alive, ending, over}
+use Rattle.grammar.specs.Machine.{words, Frame, only_one, first_of, second_of, item, gap, empty, head, word, shut, begun, past, own, step, out, bad, emits, alive, ending, over}
 use Rattle.grammar.proofs.Forward.{spells, spells_emp, run_edge, run_gap, run_close}
-use Rattle.words.specs.declared.Next.{Next}
-use Rattle.words.specs.declared.Next.TheVariants.{At, Bad}
+use Rattle.words.specs.declared.BadText.{BadText}
+use Rattle.words.specs.declared.ListWord.{ListWord as Said}
 use Rattle.words.specs.Words.{word_of, spellings, Begins, Skipped, here, later, SpelledIs, FreeItem, EmpIs}
 use Rattle.words.specs.Stops.{stops, other_byte, word_misses, emp_misses}
 
@@ -65,56 +66,40 @@ spellings_lettered i l =
       some = λ k h e. let z : not (eqb (get_or x k 0) 0) ≡ true = entry_of 0 nonzero x q.1 k h in false_true (rw (eq-eqb (get_or x k 0) 0 e) at z);
     }
 
--- a letter that is not 0 is one of the word's
-within : (x : List ℕ) (j : ℕ) → ¬ (get_or x j 0 ≡ 0) → j < length x
-within x j f = go (ltb j (length x)) refl
-  where
-    go : (c : Bool) → ltb j (length x) ≡ c → j < length x
-    go true e = ltb-true j (length x) e
-    go false e = absurd (f (get_or-eq_default x 0 (ltb-false j (length x) e)))
-
--- and 0 is behind all of them
-behind : (x : List ℕ) (j : ℕ) → Lettered x → get_or x j 0 ≡ 0 → drop j x ≡ []
-behind x j q e = drop_of_length-le x (go (ltb j (length x)) refl)
-  where
-    go : (c : Bool) → ltb j (length x) ≡ c → length x ≤ j
-    go true h = absurd (q.some j (ltb-true j (length x) h) e)
-    go false h = ltb-false j (length x) h
-
 -- the first nine are the words by their numbers
 named : ℕ → List ℕ → Bool
-named n x = orb (leb 9 n) (same_bytes x (spelling (word_of n)))
+named n x = orb (leb 9 n) (same_bytes x (spelling (get_or words n denies)))
 
 all_are_named : every named 0 spellings ≡ true
 unfolding every named same_bytes
 all_are_named = refl
 
-spelling_of : (n : ℕ) → n < 9 → get_or spellings n [] ≡ spelling (word_of n)
+pub spelling_of : (n : ℕ) → n < 9 → get_or spellings n [] ≡ spelling (get_or words n denies)
 unfolding named
-spelling_of n l = (is_same_bytes (get_or spellings n []) (spelling (word_of n))).to (rw (lt-leb 9 n l) at (entry_of [] named spellings all_are_named n (omega arith)))
+spelling_of n l = (is_same_bytes (get_or spellings n []) (spelling (get_or words n denies))).to (rw (lt-leb 9 n l) at (entry_of [] named spellings all_are_named n (omega arith)))
 
 module _ (s x : List ℕ) where
   -- behind the last letter
-  pub spelled_end : (j e : ℕ) → Lettered x → get_or x j 0 ≡ 0 → e ≤ length s → SpelledIs s (drop j x) e (At e)
-  spelled_end j e q h l = subst (λ (y : List ℕ). SpelledIs s y e (At e)) (sym (behind x j q h)) (no_more, omega arith, l)
+  pub spelled_end : (j e : ℕ) → length x ≤ j → e ≤ length s → SpelledIs s (drop j x) e (Ok e)
+  spelled_end j e h l = subst (λ (y : List ℕ). SpelledIs s y e (Ok e)) (sym (drop_of_length-le x h)) (no_more, omega arith, l)
 
-  pub spelled_eight : (e : ℕ) → Lettered x → e ≤ length s → SpelledIs s (drop 8 x) e (At e)
-  spelled_eight e q l = spelled_end 8 e q (get_or-eq_default x 0 q.short) l
-
-  -- letter c of the word does not stand at e
-  pub spelled_miss : (j e c : ℕ) → c ≡ get_or x j 0 → ¬ (c ≡ 0) → ¬ Byte s c e → e ≤ length s → SpelledIs s (drop j x) e (Bad e)
-  spelled_miss j e c h f g l =
-      subst (λ (y : List ℕ). SpelledIs s y e (Bad e)) (ap (λ (b : ℕ). b ∷ drop (suc j) x) h ∙ sym (drop-cons x j 0 (within x j (λ z. f (h ∙ z))))) (here g, l)
+  -- letter j of the word does not stand at e
+  pub spelled_miss : (j e : ℕ) → j < length x → ¬ Byte s (get_or x j 0) e → e ≤ length s → SpelledIs s (drop j x) e (Err (record { at = e }))
+  spelled_miss j e h f l = subst (λ (y : List ℕ). SpelledIs s y e (Err (record { at = e }))) (sym (drop-cons x j 0 h)) (here f, l)
 
   -- and if it does, the next letter is asked for
-  pub spelled_step : (j e c : ℕ) (r : Next) → c ≡ get_or x j 0 → ¬ (c ≡ 0) → Byte s c e → SpelledIs s (drop (j + 1) x) (e + 1) r → SpelledIs s (drop j x) e r
-  spelled_step j e c r h f q k =
-      subst (λ (y : List ℕ). SpelledIs s y e r) (ap (λ (b : ℕ). b ∷ drop (suc j) x) h ∙ sym (drop-cons x j 0 (within x j (λ z. f (h ∙ z)))))
+  pub spelled_step : (j e : ℕ) (r : Result ℕ BadText) → j < length x → Byte s (get_or x j 0) e → SpelledIs s (drop (j + 1) x) (e + 1) r → SpelledIs s (drop j x) e r
+  spelled_step j e r h q k =
+      subst (λ (y : List ℕ). SpelledIs s y e r) (sym (drop-cons x j 0 h))
       (more r (subst (λ (m : ℕ). SpelledIs s (drop m x) (suc e) r) (add-one j) (subst (λ (m : ℕ). SpelledIs s (drop (j + 1) x) m r) (add-one e) k)))
     where
-      more : (r : Next) → SpelledIs s (drop (suc j) x) (suc e) r → SpelledIs s (c ∷ drop (suc j) x) e r
-      more (At m) (k, lo, hi) = (one_more q k, omega arith, hi)
-      more (Bad p) (k, hi) = (later q k, hi)
+      more : (r : Result ℕ BadText) → SpelledIs s (drop (suc j) x) (suc e) r → SpelledIs s (get_or x j 0 ∷ drop (suc j) x) e r
+      more (Ok m) (k, lo, hi) = (one_more q k, omega arith, hi)
+      more (Err p) (k, hi) = (later q k, hi)
+
+-- the letters behind the first, as the code takes them
+pub spelled_rest : (s y x : List ℕ) (i : ℕ) (r : Result ℕ BadText) → y ≡ x → SpelledIs s (take (length y - 1) (drop 1 y)) i r → SpelledIs s (drop 1 x) i r
+spelled_rest s y x i r e k = subst (λ (z : List ℕ). SpelledIs s (drop 1 z) i r) e (subst (λ (z : List ℕ). SpelledIs s z i r) (ap (λ (n : ℕ). take n (drop 1 y)) (sym (length-drop 1 y)) ∙ take-length (drop 1 y)) k)
 
 module _ (s : List ℕ) where
   pub blank_first : (i j : ℕ) → blank (get_or s i 0) ≡ true → i < length s → Blanks s (i + 1) j → Blanks s i j
@@ -191,29 +176,29 @@ module _ (s : List ℕ) where
   unfolding ending
   no_word_end i j k l σ = skip_head s σ k.blanks ∙ stops s (head σ) j k.inside (λ b q. absurd (no_byte b j l q)) (λ m. refl)
 
-  pub no_word : (i j : ℕ) → Skipped s i j → Begins (get_or s j 0) 9 → (σ : List Frame) → onward s (head σ) i ≡ bad j
+  pub no_word : (i j : ℕ) → Skipped s i j → Begins (get_or s j 0) None → (σ : List Frame) → onward s (head σ) i ≡ bad j
   unfolding step alive ending
-  no_word i j k h σ = skip_head s σ k.blanks ∙ stops s (head σ) j k.inside (λ b q. rw (k.next b q, sym q.1, h.1 σ)) (λ m. refl)
+  no_word i j k h σ = skip_head s σ k.blanks ∙ stops s (head σ) j k.inside (λ b q. rw (k.next b q, sym q.1, h σ)) (λ m. refl)
 
-  -- behind the first letter of the word n
-  word_begins : (i j n : ℕ) → Skipped s i j → j < length s → n < 9 → Begins (get_or s j 0) n → (σ : List Frame) → onward s (head σ) i ≡ onward s (word (word_of n) (drop 1 (spelling (word_of n))) σ) (suc j)
+  -- behind the first letter of the word w
+  word_begins : (i j : ℕ) (w : Said) → Skipped s i j → j < length s → Begins (get_or s j 0) (Some w) → (σ : List Frame) → onward s (head σ) i ≡ onward s (word (word_of w) (drop 1 (spelling (word_of w))) σ) (suc j)
   unfolding step out alive
-  word_begins i j n k l m h σ =
+  word_begins i j w k l h σ =
       skip_head s σ k.blanks
-      ∙ goes_still s (head σ) (word (word_of n) (drop 1 (spelling (word_of n))) σ) (l, refl) (rw (k.next (get_or s j 0) (l, refl), h.1 σ, lt-ltb n 9 m)) refl refl
+      ∙ goes_still s (head σ) (word (word_of w) (drop 1 (spelling (word_of w))) σ) (l, refl) (rw (k.next (get_or s j 0) (l, refl), h σ)) refl refl
 
-  module _ (i j n : ℕ) (k : Skipped s i j) (l : j < length s) (m : n < 9) (h : Begins (get_or s j 0) n) where
-    rest : (r : Next) → SpelledIs s (drop 1 (get_or spellings n [])) (j + 1) r → SpelledIs s (drop 1 (spelling (word_of n))) (suc j) r
-    rest r q = subst (λ (x : List ℕ). SpelledIs s (drop 1 x) (suc j) r) (spelling_of n m) (subst (λ (a : ℕ). SpelledIs s (drop 1 (get_or spellings n [])) a r) (add-one j) q)
+  module _ (i j : ℕ) (w : Said) (k : Skipped s i j) (l : j < length s) (h : Begins (get_or s j 0) (Some w)) where
+    rest : (r : Result ℕ BadText) → SpelledIs s (drop 1 (spelling (word_of w))) (j + 1) r → SpelledIs s (drop 1 (spelling (word_of w))) (suc j) r
+    rest r q = subst (λ (a : ℕ). SpelledIs s (drop 1 (spelling (word_of w))) a r) (add-one j) q
 
-    pub word_found : (e : ℕ) → SpelledIs s (drop 1 (get_or spellings n [])) (j + 1) (At e) → Edge s e → (σ : List Frame) → onward s (head σ) i ≡ onward s (waits (word_of n) σ) e
-    word_found e q d σ = word_begins i j n k l m h σ ∙ spells s (word_of n) σ (rest (At e) q).0 ∙ run_edge s (word_of n) σ d
+    pub word_found : (e : ℕ) → SpelledIs s (drop 1 (spelling (word_of w))) (j + 1) (Ok e) → Edge s e → (σ : List Frame) → onward s (head σ) i ≡ onward s (waits (word_of w) σ) e
+    word_found e q d σ = word_begins i j w k l h σ ∙ spells s (word_of w) σ (rest (Ok e) q).0 ∙ run_edge s (word_of w) σ d
 
-    pub word_unended : (e : ℕ) → SpelledIs s (drop 1 (get_or spellings n [])) (j + 1) (At e) → ¬ Edge s e → (σ : List Frame) → onward s (head σ) i ≡ bad e
-    word_unended e q f σ = word_begins i j n k l m h σ ∙ spells s (word_of n) σ (rest (At e) q).0 ∙ word_no_edge (word_of n) σ e f q.2
+    pub word_unended : (e : ℕ) → SpelledIs s (drop 1 (spelling (word_of w))) (j + 1) (Ok e) → ¬ Edge s e → (σ : List Frame) → onward s (head σ) i ≡ bad e
+    word_unended e q f σ = word_begins i j w k l h σ ∙ spells s (word_of w) σ (rest (Ok e) q).0 ∙ word_no_edge (word_of w) σ e f q.2
 
-    pub word_missed : (p : ℕ) → SpelledIs s (drop 1 (get_or spellings n [])) (j + 1) (Bad p) → (σ : List Frame) → onward s (head σ) i ≡ bad p
-    word_missed p q σ = word_begins i j n k l m h σ ∙ word_misses s (word_of n) σ (rest (Bad p) q).0 q.1
+    pub word_missed : (p : BadText) → SpelledIs s (drop 1 (spelling (word_of w))) (j + 1) (Err p) → (σ : List Frame) → onward s (head σ) i ≡ bad p.at
+    word_missed p q σ = word_begins i j w k l h σ ∙ word_misses s (word_of w) σ (rest (Err p) q).0 q.1
 
   -- ---- `sep.emp`
 
@@ -229,27 +214,25 @@ module _ (s : List ℕ) where
   unfolding step alive ending
   no_emp σ i f l g = stops s (item σ) i l (λ b q. rw ((f b q).0, ne_eqb b 40 (f b q).1, other_byte s b 115 i g q)) (λ m. refl)
 
-  pub emp_is : (i : ℕ) → FreeItem s i → i ≤ length s → (r : Next) → SpelledIs s sep_emp i r → EmpIs s i r
-  emp_is i f l (At j) (one_more q k, lo, hi) = (omega (arith, spelt_from k), hi, λ σ. emp_here σ q ∙ spells_emp s σ 101 (bytes "p.emp") k)
-  emp_is i f l (Bad p) (here g, hi) = λ σ. no_emp σ i f l g
-  emp_is i f l (Bad p) (later q k, hi) = λ σ. emp_here σ q ∙ emp_misses s σ 101 (bytes "p.emp") k hi
+  pub emp_is : (i : ℕ) → FreeItem s i → i ≤ length s → (r : Result ℕ BadText) → SpelledIs s sep_emp i r → EmpIs s i r
+  emp_is i f l (Ok j) (one_more q k, lo, hi) = (omega (arith, spelt_from k), hi, λ σ. emp_here σ q ∙ spells_emp s σ 101 (bytes "p.emp") k)
+  emp_is i f l (Err p) (here g, hi) = λ σ. no_emp σ i f l g
+  emp_is i f l (Err p) (later q k, hi) = λ σ. emp_here σ q ∙ emp_misses s σ 101 (bytes "p.emp") k hi
 
 -- ---- the first letters
 
 -- b is none of the nine
-pub no_first : (b : ℕ) → ((c : Word) → ¬ (b ≡ get_or (spelling c) 0 0)) → Begins b 9
+pub no_first : (b : ℕ) → ((c : Word) → ¬ (b ≡ get_or (spelling c) 0 0)) → Begins b None
 unfolding begun
-no_first b f = (
-  omega arith,
-  λ σ. rw (
-    ne_eqb b 97 (f (joins and_word)),
-    ne_eqb b 111 (f (joins or_word)),
-    ne_eqb b 115 (f (joins sep_word)),
-    ne_eqb b 119 (f (joins wand_word)),
-    ne_eqb b 110 (f denies),
-    ne_eqb b 61 (f (relates equal_word)),
-    ne_eqb b 100 (f (relates distinct_word)),
-    ne_eqb b 112 (f (relates pto_word)),
-    ne_eqb b 108 (f (relates ls_word)),
-  ),
-)
+no_first b f σ =
+    rw (
+      ne_eqb b 97 (f (joins and_word)),
+      ne_eqb b 111 (f (joins or_word)),
+      ne_eqb b 115 (f (joins sep_word)),
+      ne_eqb b 119 (f (joins wand_word)),
+      ne_eqb b 110 (f denies),
+      ne_eqb b 61 (f (relates equal_word)),
+      ne_eqb b 100 (f (relates distinct_word)),
+      ne_eqb b 112 (f (relates pto_word)),
+      ne_eqb b 108 (f (relates ls_word)),
+    )

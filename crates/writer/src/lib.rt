@@ -4,36 +4,39 @@
 ghost use Rattle.std.specs.Prelude.{◌≡◌, ◌<◌, length};
 ghost use Rattle.logic.specs.Table.{tree};
 ghost use Rattle.logic.specs.Book.{nodes, root, KnownTable};
-ghost use Rattle.put.specs.Puts.{Puts, Room};
+ghost use Rattle.leaves.specs.Refusals.{outcome};
+ghost use Rattle.put.specs.Pens.{Space, Writes};
 ghost use Rattle.writing.specs.Writing.{Exports};
 ghost use Rattle.ownwords.specs.OwnWords.{text};
 ghost use Rattle.writer.specs.NamedTable.{NamedTable};
 
 use book::open;
-use contents::part;
-use leaves::{answer_of, wide};
+use leaves::{Refusal, answer_of};
 use logic::Answer;
-use ownwords::{own_bytes, put_atom, put_before, put_behind, put_between};
+use ownwords::{before, behind, between, own_bytes, put_atom};
+use put::Pen;
 
-// Writes the text of node k from `at` on, and gives back the place after it.
-fn put_node(out: &mut [u8], at: usize, f: &[u8], k: usize) -> usize
-    requires { (k < nodes f.now) × NamedTable f.now × Room at (text (tree f.now k)) out.old }
-    ensures { Puts at (text (tree f.now k)) out.old out.new result }
+// Writes the text of node k.
+fn put_node(pen: &mut Pen, f: &[u8], k: usize)
+    requires { (k < nodes f.now) × NamedTable f.now × Space pen.old (text (tree f.now k)) }
+    ensures { Writes pen.old (text (tree f.now k)) pen.new }
 {
     let op = f[3 * k];
     let x = f[3 * k + 1];
     let y = f[3 * k + 2];
     if op <= 4 {
-        return put_atom(out, at, op, x, y);
+        put_atom(pen, op, x, y);
+        return;
     }
-    let first = put_before(out, at, op);
-    let a = put_node(out, first, f, wide(x));
+    pen.put_word(before(op));
+    put_node(pen, f, usize::from(x));
     if op == 8 {
-        return put_behind(out, a, op);
+        pen.put_word(behind(op));
+        return;
     }
-    let second = put_between(out, a, op);
-    let b = put_node(out, second, f, wide(y));
-    put_behind(out, b, op)
+    pen.put_word(between(op));
+    put_node(pen, f, usize::from(y));
+    pen.put_word(behind(op));
 }
 
 // How many bytes the text of the whole formula has.
@@ -41,14 +44,23 @@ fn text_length(f: &[u8]) -> usize
     requires { KnownTable f.now }
     ensures { result ≡ length (text (tree f.now (root f.now))) }
 {
-    let end = f.len() / 3;
     let mut bytes: usize = 0;
-    let mut k: usize = 0;
-    while k < end {
+    for k in 0..f.len() / 3 {
         bytes += own_bytes(f[3 * k], f[3 * k + 1], f[3 * k + 2]);
-        k += 1;
     }
     bytes
+}
+
+// The text of a book, at the front of the output, or the refusal of the first part that fails, and then nothing changes.
+fn book_to_text(book: &[u8], out: &mut [u8]) -> Result<(), Refusal>
+    ensures { Exports book.now out.old (outcome result) out.new }
+{
+    let formula = open(book)?.formula;
+    if out.len() < text_length(formula) {
+        return Err(Refusal::OutputLength);
+    }
+    put_node(&mut Pen { out, at: 0 }, formula, formula.len() / 3 - 1);
+    Ok(())
 }
 
 // The text of a book, at the front of the output: number 0, or the refusal of the first part that fails, and then nothing
@@ -56,15 +68,8 @@ fn text_length(f: &[u8]) -> usize
 pub fn export(book: &[u8], out: &mut [u8]) -> Answer
     ensures { Exports book.now out.old result out.new }
 {
-    let opened = open(book);
-    let first = opened.answer;
-    if first.number != logic::YES {
-        return first;
+    match book_to_text(book, out) {
+        Ok(()) => answer_of(logic::YES, 0),
+        Err(refusal) => refusal.into(),
     }
-    let f = part(book, 1);
-    if out.len() < text_length(f) {
-        return answer_of(logic::OUTPUT_LENGTH, 0);
-    }
-    let _end = put_node(out, 0, f, f.len() / 3 - 1);
-    answer_of(logic::YES, 0)
 }

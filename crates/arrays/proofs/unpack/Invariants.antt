@@ -1,7 +1,7 @@
--- What the loops keep, and what falls.
+-- What the loop keeps.
 use mathlib.Core.Path.{◌≡◌}
 use mathlib.Core.List.{[]}
-use Prim.Native.Nat.{ℕ, ◌+◌, ◌-◌, ◌*◌, ◌<◌, ◌≤◌}
+use Prim.Native.Nat.{ℕ, ◌<◌}
 use lib.ListN.{length, get_or}
 use Rattle.logic.specs.Book.{most}
 use Rattle.rows.specs.Assigned.{array_in}
@@ -10,7 +10,4 @@ use Rattle.arrays.specs.Unpacked.{values_in}
 use Rattle.arrays.proofs.unpack.Given as goal
 
 abbrev pub invariant-loop-i : goal.invariant-loop-i
-invariant-loop-i l = (l.i ≤ l.arrays) × (l.at ≡ l.v + l.i * l.n) × (length l.a ≡ most_arrays) × ((k : ℕ) → k < l.i → values_in l.a k ≡ array_in l.v l.n l.arrays l.q k) × ((k : ℕ) → k < most_arrays → length (get_or l.a k []) ≡ most)
-
-abbrev pub decreases-loop-i : goal.decreases-loop-i
-decreases-loop-i l = l.arrays - l.i
+invariant-loop-i l = (length l.a ≡ most_arrays) × ((k : ℕ) → k < l.i → values_in l.a k ≡ array_in l.v l.n l.arrays l.q k) × ((k : ℕ) → k < most_arrays → length (get_or l.a k []) ≡ most)

@@ -1,35 +1,36 @@
 -- `assignment::above` meets its contract. Assumes nothing.
-use borrow.Author.Rules.{rules}
-use mathlib.Core.Path.{◌≡◌, refl, sym, ap, ap₂, ◌∙◌}
-use Prim.Native.Nat.{ℕ, ◌+◌, ◌/◌}
-use native.Mathlib.Omega.{arith}
-use lib.Dec.{leb}
-use lib.ListN.{length}
+use Rattle.std.proofs.Common.{◌≡◌, ℕ, ◌+◌, ◌≤◌, sym, ap₂, ◌∙◌, zero-le, arith}
+use Rattle.std.specs.Prelude.{Bool, true, false, leb, ltb}
+use Rattle.std.proofs.Math.Decide.{dec_le}
+use borrow.Author.Tests.{le-leb, le-ltb, lt-leb, lt-ltb}
+use mir.Val.{bool_byte}
 use Rattle.logic.specs.Table.{op_of}
 use Rattle.logic.specs.Tests.{pick}
-use Rattle.logic.specs.Weight.{sum}
 use Rattle.logic.proofs.Weight.{sum_start, sum_more}
 use Rattle.assignment.proofs.above.Goals as goal
 
-pub loop-k-init : goal.loop-k-init
-loop-k-init c = let a = c.args in (search rules, refl, search rules, sym (sum_start (λ j. pick (leb (op_of a.f.now j) a.o) 0 1)))
+-- a node counts where its operator is above o
+one_above : (o x : ℕ) → bool_byte (ltb o x) ≡ pick (leb x o) 0 1
+one_above o x = go (dec_le x o)
+  where
+    go : Dec (x ≤ o) → bool_byte (ltb o x) ≡ pick (leb x o) 0 1
+    go (yes l) = rw (le-leb x o l, le-ltb o x l)
+    go (no l) = rw (lt-leb x o (omega arith), lt-ltb o x (omega arith))
 
-pub overflow_add-r : goal.overflow_add-r
-overflow_add-r c = omega (arith, c.one_above-r.ensures.1)
+one_few : (b : Bool) → pick b 0 1 ≤ 1
+one_few true = omega arith
+one_few false = omega arith
+
+pub loop-k-init : goal.loop-k-init
+loop-k-init c = let a = c.args in (zero-le, sym (sum_start (λ j. pick (leb (op_of a.f.now j) a.o) 0 1)))
 
 pub loop-k-preserved : goal.loop-k-preserved
 loop-k-preserved c =
     let l = c.loop-k in
-    let a = c.args in (
-      search rules,
-      l.invariant.1,
-      omega (arith, c.one_above-r.ensures.1),
-      ap₂ ◌+◌ l.invariant.3 c.one_above-r.ensures.0 ∙ sym (sum_more (λ j. pick (leb (op_of a.f.now j) a.o) 0 1) l.k),
-    )
-
-pub returns : goal.returns
-returns c =
-    let l = c.loop-k in
     let a = c.args in
-    let e : l.k ≡ length a.f.now / 3 = omega arith in
-    (l.invariant.3 ∙ ap (λ (k : ℕ). sum k (λ j. pick (leb (op_of a.f.now j) a.o) 0 1)) e, omega (arith, l.invariant.2))
+    let x = op_of a.f.now l.k in
+    let e = c.from-r.ensures ∙ one_above a.o x in
+    let few : c.from-r.result ≤ 1 = rw e (one_few (leb x a.o)) in (
+      omega (arith, few),
+      ap₂ ◌+◌ l.invariant.1 e ∙ sym (sum_more (λ j. pick (leb (op_of a.f.now j) a.o) 0 1) l.k),
+    )

@@ -1,9 +1,11 @@
 -- `atomfacts::diff_fact` meets its contract. Assumes nothing.
-use Rattle.atomfacts.specs.AtomLaws.{diff_there, diff_elsewhere}
+use Rattle.atomfacts.specs.AtomLaws.{diff_there, diff_elsewhere, numbers_are}
 use Rattle.atomfacts.proofs.diff_fact.Goals as goal
+use Rattle.atomfacts.proofs.diff_fact.Goals.{then-a-b, else-a-b}
 
-pub returns-then-a-b : goal.returns-then-a-b
-returns-then-a-b c = diff_there _ _ _ _ _ c.if-a-b.true c.nothing.ensures
-
-pub returns-else-a-b : goal.returns-else-a-b
-returns-else-a-b c = diff_elsewhere _ _ _ _ _ c.if-a-b.false c.empty.ensures
+pub returns : goal.returns
+returns c =
+    elim c.if-a-b.branch [
+      | then-a-b w ↦ diff_there _ _ _ _ _ w.if-a-b.true (numbers_are w.result-is)
+      | else-a-b w ↦ diff_elsewhere _ _ _ _ _ w.if-a-b.false (numbers_are w.result-is)
+    ]

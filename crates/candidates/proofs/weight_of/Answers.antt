@@ -4,7 +4,6 @@ use Prim.Native.Nat.{ℕ, ◌*◌, ◌≤◌}
 use native.Mathlib.Nat.{mul-le-mul}
 use native.Mathlib.Omega.{arith}
 use Rattle.skips.proofs.BlockLaws.{weight_some}
-use Rattle.candidates.specs.CounterLaws.{total_fits}
 use Rattle.candidates.specs.PassLaws.{weight_below, weight_from}
 use Rattle.candidates.proofs.weight_of.Goals as goal
 
@@ -14,11 +13,8 @@ returns-then-j-n c =
     let e = c.power.ensures.0 ∙ weight_below a.n a.j c.if-j-n.true in
     (e, omega (arith, e, weight_some a.n a.j), omega (arith, c.power.ensures.1))
 
-pub overflow_mul-result : goal.overflow_mul-result
-overflow_mul-result c = omega (arith, total_fits c.power-2.result c.power-3.result c.power-2.ensures.1 c.power-3.ensures.1)
-
-pub returns : goal.returns
-returns c =
+pub returns-else-j-n : goal.returns-else-j-n
+returns-else-j-n c =
     let a = c.args in
-    let e = ap₂ (λ (x y : ℕ). x * y) c.power-2.ensures.0 c.power-3.ensures.0 ∙ weight_from a.n a.j c.if-j-n.false in
-    (e, subst (λ (x : ℕ). 1 ≤ x) (sym e) (weight_some a.n a.j), mul-le-mul c.power-2.ensures.1 c.power-3.ensures.1)
+    let e = ap₂ (λ (x y : ℕ). x * y) c.power-else-j-n.ensures.0 c.power-else-j-n-2.ensures.0 ∙ weight_from a.n a.j c.if-j-n.false in
+    (e, subst (λ (x : ℕ). 1 ≤ x) (sym e) (weight_some a.n a.j), mul-le-mul c.power-else-j-n.ensures.1 c.power-else-j-n-2.ensures.1)

@@ -5,11 +5,6 @@ use Rattle.cells.specs.Cells.{cells, Barred}
 use Rattle.cells.specs.Unnamed.{barred_none}
 use Rattle.cells.proofs.barred.Goals as goal
 
-pub returns-in-Strong : goal.returns-in-Strong
-returns-in-Strong c =
-    let a = c.args in
-    subst (λ (π : Profile). Barred π a.v a.n (cells a.s) c.unnamed.result) (sym c.in-Strong.is) c.unnamed.ensures
-
 pub returns-in-Ordinary : goal.returns-in-Ordinary
 returns-in-Ordinary c =
     let a = c.args in

@@ -5,11 +5,5 @@ use Rattle.cells.proofs.met.Goals as goal
 pub returns-then-u-eq0 : goal.returns-then-u-eq0
 returns-then-u-eq0 c = met_nothing _ _ c.if-u-eq0.true
 
-pub values-requires : goal.values-requires
-values-requires c = c.requires.1
-
-pub taken-requires : goal.taken-requires
-taken-requires c = c.requires.1
-
 pub returns : goal.returns
 returns c = met_law _ _ _ _ c.requires.0 c.values.ensures c.taken.ensures

@@ -1,22 +1,13 @@
 -- `contents::placed` meets its contract. Assumes nothing.
-use mathlib.Core.Path.{refl}
-use mathlib.Core.Logic.{inl, inr}
-use native.Mathlib.Omega.{arith}
+use Rattle.std.proofs.Common.{refl, inl, inr}
+use Rattle.logic.proofs.Reflect.{fails}
 use Rattle.logic.specs.Book.{Placed}
-use Rattle.logic.proofs.BookLaws.{reads_laid_out, not_laid_out}
 use Rattle.contents.proofs.placed.Goals as goal
 
-pub returns-then-a-ne-YES : goal.returns-then-a-ne-YES
+pub returns-then-is_given : goal.returns-then-is_given
 unfolding Placed
-returns-then-a-ne-YES c = inr (λ g. not_laid_out c.args.book.now c.check-a.result c.check-a.ensures c.if-a-ne-YES.true g.0, (refl, refl))
+returns-then-is_given c = inl (c.is_given.ensures.to c.if-is_given.true, c.row_of.ensures)
 
-pub returns-then-entry-gt1 : goal.returns-then-entry-gt1
+pub returns-else-is_given : goal.returns-else-is_given
 unfolding Placed
-returns-then-entry-gt1 c = inr (λ g. omega (arith, g.1), (refl, refl))
-
-pub row_of-requires : goal.row_of-requires
-row_of-requires c = (reads_laid_out c.args.book.now c.check-a.result c.check-a.ensures c.if-a-ne-YES.false, omega arith)
-
-pub returns : goal.returns
-unfolding Placed
-returns c = inl ((reads_laid_out c.args.book.now c.check-a.result c.check-a.ensures c.if-a-ne-YES.false, omega arith), c.row_of.ensures)
+returns-else-is_given c = inr (fails _ c.is_given.ensures c.if-is_given.false, (refl, refl))

@@ -1,22 +1,17 @@
 -- `encoder::own_rows` meets its contract. Assumes nothing.
 use borrow.Author.Rules.{rules}
-use mathlib.Core.Path.{◌≡◌, sym, ◌∙◌, ap, ap₂}
+use mathlib.Core.Path.{◌≡◌, sym, ◌∙◌, ap}
 use Prim.Native.Nat.{ℕ, ◌+◌}
 use native.Mathlib.Omega.{arith}
 use Rattle.encoder.specs.EncodeLaws.{own_pair, own_ls, own_one, own_but, own_sep, own_sept}
 use Rattle.encoder.proofs.own_rows.Goals.{in_default-via-then-op-lt1, in_default-via-else-op-lt1+else-op-lt4+else-op-lt7}
 use Rattle.encoder.proofs.own_rows.Goals as goal
 
-pub overflow_add-result-in-9 : goal.overflow_add-result-in-9
-overflow_add-result-in-9 c = omega (arith, c.apart_rows.ensures.1)
-
-pub overflow_add-result-in_default : goal.overflow_add-result-in_default
-overflow_add-result-in_default c = omega (arith, c.apart_rows-in_default.ensures.1)
-
 pub returns-in-4 : goal.returns-in-4
 returns-in-4 c =
     let a = c.args in
-    (ap₂ (λ (x y : ℕ). x + 1 + y) c.short.ensures c.short-in-4.ensures ∙ sym (own_ls a.profile a.n a.op (omega arith)), omega (arith, c.short.ensures, c.short-in-4.ensures))
+    let e = c.from.ensures in
+    (omega (arith, e) ∙ sym (own_ls a.profile a.n a.op (omega arith)), omega (arith, e))
 
 pub returns-in-7 : goal.returns-in-7
 returns-in-7 c = (sym (own_but _ _ _ (omega arith)), search rules)

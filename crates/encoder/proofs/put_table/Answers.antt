@@ -1,28 +1,23 @@
 -- `encoder::put_table` meets its contract. Assumes nothing.
 use native.Mathlib.Omega.{arith}
+use Rattle.std.proofs.Common.{sym}
 use Rattle.logic.specs.Table.{tree}
 use Rattle.logic.specs.Book.{root}
 use Rattle.rows.proofs.TableLaws.{rows_some}
-use Rattle.rowbytes.specs.WrittenLaws.{row_after, space_after}
-use Rattle.encoder.specs.EncodeLaws.{room_formula, table_written}
+use Rattle.rowbytes.specs.WrittenLaws.{row_after, space_after, kept_then}
+use Rattle.encoder.specs.EncodeLaws.{table_written}
 use Rattle.encoder.proofs.put_table.Goals as goal
 
-pub overflow_sub-f : goal.overflow_sub-f
-overflow_sub-f c = omega (arith, c.requires.0.1.some)
-
-pub node-t-requires : goal.node-t-requires
-node-t-requires c =
+pub put_long-requires : goal.put_long-requires
+put_long-requires c =
     let a = c.args in
-    let z = c.requires in
-    (omega (arith, z.0.1.some), omega (arith, z.1), z.0, room_formula a.profile a.n a.p (tree a.f.now (root a.f.now)) a.out.now z.2)
-
-pub put_long-u-requires : goal.put_long-u-requires
-put_long-u-requires c =
-    let a = c.args in
-    let q = c.node-t in
-    (omega (arith, row_after q.ensures, rows_some a.profile a.n (tree a.f.now (root a.f.now))), space_after 2 _ q.ensures c.requires.2.space q.auto.out)
+    let q = c.node.ensures in
+    (omega (arith, row_after q.rows, rows_some a.source.now.profile a.source.now.n (tree a.source.now.formula.now (root a.source.now.formula.now))), space_after 2 _ q.rows c.requires.2.space q.kept.long)
 
 pub returns : goal.returns
 returns c =
     let a = c.args in
-    table_written a.profile a.n a.p (tree a.f.now (root a.f.now)) a.out.now c.requires.2 c.node-t.ensures c.put_long-u.ensures
+    let k = kept_then c.node.ensures.kept c.put_long.ensures.kept in
+    let n = sym k.same in
+    let e = table_written a.source.now.profile a.source.now.n a.p (tree a.source.now.formula.now (root a.source.now.formula.now)) a.out.now c.requires.2 c.node.ensures.rows c.put_long.ensures.puts in
+    grind (arith, e, n)

@@ -5,4 +5,4 @@ use Rattle.logic.proofs.Reflect.{is_iff, is_eq}
 use Rattle.entries.proofs.is_kind.Goals as goal
 
 pub returns : goal.returns
-returns c = is_iff (is_eq c.wide.result (c.args.e + 1)) (λ q. omega (arith, q, c.wide.ensures.0)) (λ q. omega (arith, q, c.wide.ensures.0))
+returns c = is_iff (is_eq c.from.result (c.args.e + 1)) (λ q. omega (arith, q, c.from.ensures)) (λ q. omega (arith, q, c.from.ensures))

@@ -1,48 +1,16 @@
 -- `head::put_head` meets its contract. Assumes nothing.
-use native.Mathlib.Omega.{arith}
-use lib.ListN.{length-set}
-use lib.Seq.{sets-eq}
+use Rattle.std.specs.Prelude.{◌≡◌, List, [], ◌∷◌, ◌++◌, ℕ, ◌<◌, ◌/◌, ◌%◌, drop, get_or}
+use Rattle.std.specs.Int.{w16, to_le_bytes}
+use Rattle.std.proofs.Common.{ap, arith}
 use Rattle.logic.specs.Book.{head_of}
 use Rattle.head.proofs.put_head.Goals as goal
 
-pub bounds-out-1 : goal.bounds-out-1
-bounds-out-1 c = simp length-set (omega arith)
-
-pub bounds-out-2 : goal.bounds-out-2
-bounds-out-2 c = simp length-set (omega arith)
-
-pub bounds-out-3 : goal.bounds-out-3
-bounds-out-3 c = simp length-set (omega arith)
-
-pub bounds-out-4 : goal.bounds-out-4
-bounds-out-4 c = simp length-set (omega arith)
-
-pub bounds-out-5 : goal.bounds-out-5
-bounds-out-5 c = simp length-set (omega arith)
-
-pub bounds-out-6 : goal.bounds-out-6
-bounds-out-6 c = simp length-set (omega arith)
-
-pub bounds-out-7 : goal.bounds-out-7
-bounds-out-7 c = simp length-set (omega arith)
-
-pub bounds-out-8 : goal.bounds-out-8
-bounds-out-8 c = simp length-set (omega arith)
-
-pub bounds-out-9 : goal.bounds-out-9
-bounds-out-9 c = simp length-set (omega arith)
-
-pub bounds-out-10 : goal.bounds-out-10
-bounds-out-10 c = simp length-set (omega arith)
-
-pub bounds-out-11 : goal.bounds-out-11
-bounds-out-11 c = simp length-set (omega arith)
-
-pub bounds-out-12 : goal.bounds-out-12
-bounds-out-12 c = simp length-set (omega arith)
-
-pub bounds-out-13 : goal.bounds-out-13
-bounds-out-13 c = simp length-set (omega arith)
+-- the two bytes of the size are its low and its high byte
+with_size : (kind v n p size : ℕ) (xs s : List ℕ) → size < 65536 → s ≡ to_le_bytes w16 size
+    → xs ≡ 2 ∷ 1 ∷ 11 ∷ 0 ∷ 3 ∷ 0 ∷ kind ∷ 14 ∷ 0 ∷ get_or s 0 0 ∷ get_or s 1 0 ∷ v ∷ n ∷ p ∷ [] → xs ≡ head_of kind v n p size
+with_size kind v n p size xs s h e d =
+    let high : size / 256 % 256 ≡ size / 256 = omega arith in
+    rw (d, e, high)
 
 pub returns : goal.returns
-returns c = let a = c.args in sets-eq (head_of a.kind a.v a.n a.p a.size) a.out.now 0 (omega (arith, c.requires))
+returns c = ap (λ (h : List ℕ). h ++ drop 14 c.args.out.now) (with_size _ _ _ _ _ _ _ (omega arith) c.to_le_bytes.ensures c.copy_from_slice.ensures.after)

@@ -1,21 +1,16 @@
 -- `import::whole` meets its contract. Assumes nothing.
+use mathlib.Core.Path.{refl}
+use Rattle.std.proofs.lemmas.Result.{err_from_is_err_and}
 use Rattle.import.specs.WholeLaws.{whole_refused, whole_open, whole_read}
 use Rattle.import.proofs.whole.Goals as goal
 
-pub returns-then-body-ne-YES : goal.returns-then-body-ne-YES
-returns-then-body-ne-YES c = let a = c.args in whole_refused a.s.now a.table.now a.letters.now _ c.item-body.ensures c.if-body-ne-YES.true
-
-pub skip-end-requires : goal.skip-end-requires
-skip-end-requires c = (c.item-body.ensures.read c.if-body-ne-YES.false).inside
+pub returns-in_err-body : goal.returns-in_err-body
+returns-in_err-body c =
+    let p = err_from_is_err_and c.from_residual.result c.from_residual.ensures.1 in
+    rw (p.1, p.2) (whole_refused c.args.s.now _ _ c.in_err-body.field-0.0 _ c.in_err-body.ensures)
 
 pub returns-then-end-s : goal.returns-then-end-s
-returns-then-end-s c =
-    let a = c.args in
-    let k = c.skip-end in
-    whole_open a.s.now a.table.now a.letters.now _ (c.item-body.ensures.read c.if-body-ne-YES.false) k.result k.ensures c.if-end-s.true
+returns-then-end-s c = whole_open c.args.s.now _ _ _ (c.in_ok-body.ensures.read refl) c.skip-end.result c.skip-end.ensures c.if-end-s.true
 
 pub returns : goal.returns
-returns c =
-    let a = c.args in
-    let k = c.skip-end in
-    whole_read a.s.now a.table.now a.letters.now _ (c.item-body.ensures.read c.if-body-ne-YES.false) k.result k.ensures c.if-body-ne-YES.false c.if-end-s.false
+returns c = whole_read c.args.s.now _ _ _ (c.in_ok-body.ensures.read refl) c.skip-end.result c.skip-end.ensures c.if-end-s.false

@@ -8,5 +8,5 @@ returns-then-l-a c = exchanged_first _ _ c.if-l-a.true
 pub returns-then-l-a-2 : goal.returns-then-l-a-2
 returns-then-l-a-2 c = exchanged_second _ _ c.if-l-a-2.true
 
-pub returns : goal.returns
-returns c = exchanged_other _ _ c.if-l-a.false c.if-l-a-2.false
+pub returns-else-l-a-2 : goal.returns-else-l-a-2
+returns-else-l-a-2 c = exchanged_other _ _ c.if-l-a.false c.if-l-a-2.false

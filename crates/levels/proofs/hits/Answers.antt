@@ -1,9 +1,15 @@
 -- `levels::hits` meets its contract. Assumes nothing.
-use Rattle.levels.specs.LevelLaws.{hits_there, hits_elsewhere}
+use mir.Val.{bool_byte}
+use Rattle.std.specs.Prelude.{◌≡◌, Bool, true, false, ℕ, ◌≤◌, eqb}
+use Rattle.std.proofs.Common.{◌∙◌, ap, add-one, arith}
+use Rattle.logic.specs.Tests.{pick}
+use Rattle.skips.specs.Counts.{hit}
 use Rattle.levels.proofs.hits.Goals as goal
 
-pub returns-then-d-l : goal.returns-then-d-l
-returns-then-d-l c = hits_there _ _ c.if-d-l.true
-
-pub returns-else-d-l : goal.returns-else-d-l
-returns-else-d-l c = hits_elsewhere _ _ c.if-d-l.false
+pub returns : goal.returns
+unfolding hit
+returns c = told _ _ (c.from.ensures ∙ ap (λ (x : ℕ). bool_byte (eqb c.args.d x)) (add-one c.args.l))
+  where
+    told : (b : Bool) (r : ℕ) → r ≡ bool_byte b → (r ≡ pick b 1 0) × (r ≤ 1)
+    told true r e = (e, omega arith)
+    told false r e = (e, omega arith)

@@ -8,17 +8,11 @@ use Rattle.levels.proofs.swapped.Goals as goal
 pub loop-i-init : goal.loop-i-init
 loop-i-init c = swapping_none _ _ c.requires.0
 
-pub exchanged-requires : goal.exchanged-requires
-exchanged-requires c = c.requires.1
-
 pub cell-requires : goal.cell-requires
 cell-requires c = omega (arith, c.exchanged.ensures, exchanged_low c.args.a (c.loop-i.i + 1) 8 c.requires.1 (omega arith))
 
 pub new_digit-d-requires : goal.new_digit-d-requires
 new_digit-d-requires c = (c.requires.1, omega (arith, c.cell.ensures, cells_lt c.args.w c.exchanged.result))
-
-pub placed-r-requires : goal.placed-r-requires
-placed-r-requires c = (c.new_digit-d.ensures.1, omega arith, omega arith)
 
 pub loop-i-preserved : goal.loop-i-preserved
 loop-i-preserved c = swapping_more _ _ _ _ _ _ _ _ c.loop-i.invariant c.loop-i-test.true c.exchanged.ensures c.cell.ensures c.new_digit-d.ensures.0 c.placed-r.ensures

@@ -1,11 +1,6 @@
 -- What the loops keep, and what falls.
-use Prim.Native.Nat.{◌-◌}
-use Rattle.cells.specs.Cells.{most}
 use Rattle.levels.specs.SwapLaws.{Swapping}
 use Rattle.levels.proofs.swapped.Given as goal
 
 abbrev pub invariant-loop-i : goal.invariant-loop-i
 invariant-loop-i l = Swapping l.a l.w l.i l.r
-
-abbrev pub decreases-loop-i : goal.decreases-loop-i
-decreases-loop-i l = most - l.i

@@ -1,39 +1,44 @@
 -- `ownwords::put_atom` meets its contract. Assumes nothing.
-use native.Mathlib.Omega.{arith}
-use Rattle.put.specs.PutsLaws.{room_behind, puts_puts}
+use Rattle.put.specs.PutsLaws.{room_as}
+use Rattle.put.specs.PensLaws.{space_behind, writes_writes, writes_as}
 use Rattle.ownwords.specs.OwnWords.{between, behind, term}
 use Rattle.ownwords.specs.OwnWordLaws.{room_before, room_to_first, room_to_between, room_to_second}
 use Rattle.ownwords.proofs.put_atom.Goals as goal
 
-pub put_before-first-requires : goal.put_before-first-requires
-put_before-first-requires c =
+pub put_word-requires : goal.put_word-requires
+put_word-requires c =
     let a = c.args in
-    (c.requires.0, omega arith, room_before a.op a.at (term a.x) (term a.y) a.out.now c.requires.4)
+    let p = a.pen.now in
+    room_as p.at p.out.now c.before-2.ensures (room_before a.op p.at (term a.x) (term a.y) p.out.now c.requires.4)
 
-pub put_term-a-requires : goal.put_term-a-requires
-put_term-a-requires c =
+pub put_term-requires : goal.put_term-requires
+put_term-requires c =
     let a = c.args in
-    (c.requires.2, room_behind c.put_before-first.ensures (term a.x) (room_to_first a.op a.at (term a.x) (term a.y) a.out.now c.requires.4))
+    let p = a.pen.now in
+    (c.requires.2, space_behind (writes_as c.before-2.ensures c.put_word.ensures) (term a.x) (room_to_first a.op p.at (term a.x) (term a.y) p.out.now c.requires.4))
 
-pub put_between-second-requires : goal.put_between-second-requires
-put_between-second-requires c =
-    let a = c.args in (
-      c.requires.0,
-      omega arith,
-      λ e. omega arith,
-      room_behind (puts_puts c.put_before-first.ensures c.put_term-a.ensures) (between a.op)
-          (room_to_between a.op a.at (term a.x) (term a.y) a.out.now c.requires.4),
-    )
-
-pub put_term-b-requires : goal.put_term-b-requires
-put_term-b-requires c =
+pub put_word-requires-2 : goal.put_word-requires-2
+put_word-requires-2 c =
     let a = c.args in
-    (c.requires.3, room_behind (puts_puts (puts_puts c.put_before-first.ensures c.put_term-a.ensures) c.put_between-second.ensures) (term a.y) (room_to_second a.op a.at (term a.x) (term a.y) a.out.now c.requires.4))
+    let p = a.pen.now in
+    let q = c.put_term.new.pen in
+    room_as q.at q.out.now c.between.ensures
+    (space_behind (writes_writes (writes_as c.before-2.ensures c.put_word.ensures) c.put_term.ensures) (between a.op) (room_to_between a.op p.at (term a.x) (term a.y) p.out.now c.requires.4))
 
-pub put_behind-requires : goal.put_behind-requires
-put_behind-requires c =
-    (c.requires.0, omega arith, room_behind (puts_puts (puts_puts (puts_puts c.put_before-first.ensures c.put_term-a.ensures) c.put_between-second.ensures) c.put_term-b.ensures) (behind c.args.op) c.requires.4)
+pub put_term-requires-2 : goal.put_term-requires-2
+put_term-requires-2 c =
+    let a = c.args in
+    let p = a.pen.now in
+    let u = writes_writes (writes_writes (writes_as c.before-2.ensures c.put_word.ensures) c.put_term.ensures) (writes_as c.between.ensures c.put_word-2.ensures) in
+    (c.requires.3, space_behind u (term a.y) (room_to_second a.op p.at (term a.x) (term a.y) p.out.now c.requires.4))
+
+pub put_word-requires-3 : goal.put_word-requires-3
+put_word-requires-3 c =
+    let u = writes_writes (writes_writes (writes_as c.before-2.ensures c.put_word.ensures) c.put_term.ensures) (writes_as c.between.ensures c.put_word-2.ensures) in
+    let q = c.put_term-2.new.pen in
+    room_as q.at q.out.now c.behind.ensures (space_behind (writes_writes u c.put_term-2.ensures) (behind c.args.op) c.requires.4)
 
 pub returns : goal.returns
 returns c =
-    puts_puts (puts_puts (puts_puts (puts_puts c.put_before-first.ensures c.put_term-a.ensures) c.put_between-second.ensures) c.put_term-b.ensures) c.put_behind.ensures
+    let u = writes_writes (writes_writes (writes_as c.before-2.ensures c.put_word.ensures) c.put_term.ensures) (writes_as c.between.ensures c.put_word-2.ensures) in
+    writes_writes (writes_writes u c.put_term-2.ensures) (writes_as c.behind.ensures c.put_word-3.ensures)

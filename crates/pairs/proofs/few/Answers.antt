@@ -7,4 +7,4 @@ use Rattle.pairs.proofs.few.Goals as goal
 pub returns : goal.returns
 unfolding next follow in_order begins
 returns c =
-    record { locs = 6; enough = omega arith; few = omega arith; passed = record { long = refl; ordered = refl; begun = refl } }
+    (record { locs = 6; enough = omega arith; few = omega arith; passed = record { long = refl; ordered = refl; begun = refl } }, refl)

@@ -1,29 +1,20 @@
 -- What a read puts behind the bytes so far goes on from them: `read_front` consumes what it puts at the front.
-use Rattle.std.proofs.Common.{◌≡◌, ℕ, ◌+◌, ◌-◌, ◌≤◌, List, ◌++◌, rules, arith, length, take, slice_range, sym, ap, ◌∙◌, subst, le_refl, drop_at, length-take-le}
-use Rattle.std.proofs.lemmas.Slice.{take-put_mid_below}
+use Rattle.std.proofs.Common.{◌≡◌, ℕ, ◌+◌, ◌-◌, ◌≤◌, List, ◌++◌, rules, length, take, sym, ap, ◌∙◌, subst, length-take-le}
+use Rattle.std.proofs.lemmas.List.{take-append-le}
+use Rattle.std.proofs.Math.Seq.{take-append-add}
 use Rattle.std.specs.Io.KnownBytes.{Consumes}
 use Rattle.std.proofs.KnownBytes.{Consumes-trans}
 use borrow.Rule.Slice.PartMut.{put_mid, post_of}
-use lib.Seq.{take-add, take-append-le}
 use Rattle.shape.proofs.read_front.Goals as goal
 
-take_split : (a b : ℕ) (old new : List ℕ) → a ≤ b → take a new ≡ take a old → take a old ++ slice_range new a b ≡ take b new
-take_split a b old new h front =
-    let same : a + (b - a) ≡ b = omega arith in
-    ap (λ l. l ++ slice_range new a b) (sym front) ∙ sym (take-add a (b - a) new) ∙ ap (λ n. take n new) same
-
-slice_range-put_mid : (a k n : ℕ) (xs ys : List ℕ) → a ≤ length xs → n ≤ length ys → slice_range (put_mid a k xs ys) a (a + n) ≡ take n ys
-slice_range-put_mid a k n xs ys within fits =
-    let same : (a + n) - a ≡ n = omega arith in
-    let after = post_of a k xs in
-    ap (take ((a + n) - a)) (drop_at (take a xs) (ys ++ after) a (length-take-le a xs within)) ∙ ap (λ m. take m (ys ++ after)) same ∙ take-append-le n ys after fits
+take_put : (a k n : ℕ) (xs ys : List ℕ) → a ≤ length xs → n ≤ length ys → take (a + n) (put_mid a k xs ys) ≡ take a xs ++ take n ys
+take_put a k n xs ys within fits =
+    let behind = ys ++ post_of a k xs in
+    ap (λ m. take (m + n) (take a xs ++ behind)) (sym (length-take-le a xs within)) ∙ take-append-add (take a xs) behind n
+    ∙ ap (λ l. take a xs ++ l) (take-append-le n ys (post_of a k xs) fits)
 
 pub loop-count-preserved : goal.loop-count-preserved
 loop-count-preserved g c =
     let from = c.loop-count.count in
-    let more = c.in_ok-more.more in
-    let room = length c.loop-count.input - from in
-    let within = c.loop-count.invariant.0 in
-    let part = slice_range-put_mid from room more c.loop-count.input c.read.new.buf within c.in_ok-more.ensures.bound.0 in
-    let joined = take_split from (from + more) c.loop-count.input (put_mid from room c.loop-count.input c.read.new.buf) (omega arith) (take-put_mid_below _ _ _ _ _ (le_refl _) within) in
-    (search rules, subst (Consumes _ _) (ap (λ l. take from c.loop-count.input ++ l) (sym part) ∙ joined) (Consumes-trans _ _ _ _ _ c.loop-count.invariant.1 c.in_ok-more.ensures.bytes.0))
+    let joined = take_put from (length c.loop-count.input - from) c.in_ok-more.more c.loop-count.input c.read.new.buf c.loop-count.invariant.0 c.in_ok-more.ensures.bound.0 in
+    (search rules, subst (Consumes _ _) (sym joined) (Consumes-trans _ _ _ _ _ c.loop-count.invariant.1 c.in_ok-more.ensures.bytes.0))

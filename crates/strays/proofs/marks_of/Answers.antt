@@ -11,24 +11,19 @@ bit-requires c =
     let a = c.args in
     let p = c.requires in
     let q = atom_operands a.v a.f.now a.k p.1 (omega arith) in
-    omega (arith, q.0, p.2, c.long-a.ensures)
+    omega (arith, q.0, p.2, c.from-a.ensures)
 
 pub bit-requires-in-1-to-4 : goal.bit-requires-in-1-to-4
 bit-requires-in-1-to-4 c =
     let a = c.args in
     let p = c.requires in
     let q = atom_operands a.v a.f.now a.k p.1 (omega arith) in
-    omega (arith, q.1, p.2, c.long-b.ensures)
+    omega (arith, q.1, p.2, c.from-b.ensures)
 
 pub returns-in-1-to-4 : goal.returns-in-1-to-4
 returns-in-1-to-4 c =
     let a = c.args in
-    marks_atom a.f.now a.k c.bit.result c.bit-in-1-to-4.result (omega arith) (c.bit.ensures ∙ ap (λ (x : ℕ). 2 ^ x) c.long-a.ensures) (c.bit-in-1-to-4.ensures ∙ ap (λ (x : ℕ). 2 ^ x) c.long-b.ensures)
-
-pub returns-in_default : goal.returns-in_default
-returns-in_default c =
-    let a = c.args in
-    marks_join a.f.now a.k (λ l. omega (arith, l, c.requires.1.operator.0))
+    marks_atom a.f.now a.k c.bit.result c.bit-in-1-to-4.result (omega arith) (c.bit.ensures ∙ ap (λ (x : ℕ). 2 ^ x) c.from-a.ensures) (c.bit-in-1-to-4.ensures ∙ ap (λ (x : ℕ). 2 ^ x) c.from-b.ensures)
 
 pub returns-in_default-2 : goal.returns-in_default-2
 returns-in_default-2 c =

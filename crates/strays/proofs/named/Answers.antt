@@ -1,12 +1,7 @@
 -- `strays::named` meets its contract. Assumes nothing.
-use borrow.Author.Rules.{rules}
-use mathlib.Core.Path.{◌≡◌, ◌∙◌, ap, subst, subst⁻¹}
-use mathlib.Core.Logic.{inl}
-use Prim.Native.Nat.{ℕ, suc, ◌+◌, ◌-◌}
-use native.Mathlib.Numerals.{add-one}
-use native.Mathlib.Omega.{arith}
-use Rattle.logic.specs.declared.Answer.{Answer}
-use Rattle.logic.specs.Numbers.{answer, stray_variable}
+use Rattle.std.specs.Prelude.{◌≡◌, refl, List, ℕ, zero, suc, ◌+◌, ◌-◌, ◌≤◌}
+use Rattle.std.proofs.Common.{subst, inl, arith}
+use Rattle.logic.specs.Numbers.{answer, yes_number, stray_variable}
 use Rattle.logic.specs.Checks.{upto, Passes, Answers}
 use Rattle.logic.specs.CheckLaws.{Yes}
 use Rattle.logic.proofs.CheckLaws.{passes_none, passes_more, upto_refused, answers_passed}
@@ -14,45 +9,45 @@ use Rattle.logic.proofs.Reflect.{fails}
 use Rattle.logic.specs.Strays.{NamedByAtom, name_checks}
 use Rattle.strays.proofs.named.Goals as goal
 
-pub marks-m-requires : goal.marks-m-requires
-marks-m-requires c = c.requires
+passes_to : (f : List ℕ) (i k : ℕ) → i ≡ k → Passes (upto (name_checks f) i) → Passes (upto (name_checks f) k)
+passes_to f i k e p = subst (λ (j : ℕ). Passes (upto (name_checks f) j)) e p
 
-pub loop-left-init : goal.loop-left-init
-loop-left-init c =
-    let a = c.args in
-    let none : 0 ≡ a.v - a.v = omega arith in
-    (search rules, subst (λ (k : ℕ). Passes (upto (name_checks a.f.now) k)) none (passes_none (name_checks a.f.now)))
+-- one variable more is named
+one_more : (f : List ℕ) (x : ℕ) → 1 ≤ x → Passes (upto (name_checks f) (x - 1)) → NamedByAtom f x → Passes (upto (name_checks f) x)
+unfolding Passes
+one_more f zero l p h = absurd (omega arith)
+one_more f (suc i) l p h = passes_more (name_checks f) i (passes_to f (suc i - 1) i (omega arith) p) (h, tt)
 
-pub is_marked-requires : goal.is_marked-requires
-is_marked-requires c = omega (arith, c.requires.1, c.loop-left-test.true)
+-- the next one is not
+stray : (f : List ℕ) (v x : ℕ) → 1 ≤ x → x ≤ v → Passes (upto (name_checks f) (x - 1)) → ¬ NamedByAtom f x → Answers (upto (name_checks f) v) Yes (answer stray_variable x)
+unfolding Answers
+stray f v zero l m p n = absurd (omega arith)
+stray f v (suc i) l m p n =
+    upto_refused (name_checks f) v i (answer stray_variable (suc i)) m (passes_to f (suc i - 1) i (omega arith) p) (inl (n, refl)) (λ e. omega (arith, e))
+
+pub loop-x-init : goal.loop-x-init
+loop-x-init c = passes_none (name_checks c.args.f.now)
 
 pub returns-then-not-is_marked : goal.returns-then-not-is_marked
-unfolding Answers
 returns-then-not-is_marked c =
-    let a = c.args in
-    let l = c.loop-left in
-    let i = a.v - l.left in
-    let m = c.marks-m in
-    let refused : ¬ (c.answer_of.result.number ≡ 0) = λ e. omega (arith, ap (λ (r : Answer). r.number) c.answer_of.ensures, e) in
+    let l = c.loop-x in
     let unmarked = fails _ c.is_marked.ensures c.if-not-is_marked.true in
-    upto_refused (name_checks a.f.now) a.v i c.answer_of.result (omega (arith, c.loop-left-test.true)) l.invariant.1
-    (inl (λ h. unmarked ((m.ensures (i + 1)).from (subst⁻¹ (NamedByAtom a.f.now) (add-one i) h)), c.answer_of.ensures ∙ ap (answer stray_variable) (add-one i))) refused
+    stray c.args.f.now c.args.v l.x l.auto.x (omega arith) l.invariant (λ h. unmarked ((c.marks-m.ensures l.x).from h))
 
-pub loop-left-preserved : goal.loop-left-preserved
-unfolding Passes
-loop-left-preserved c =
-    let a = c.args in
-    let l = c.loop-left in
-    let i = a.v - l.left in
-    let m = c.marks-m in
-    let here : NamedByAtom a.f.now (suc i) = subst (NamedByAtom a.f.now) (add-one i) ((m.ensures (i + 1)).to (c.is_marked.ensures.to c.if-not-is_marked.false)) in
-    let next : suc i ≡ a.v - (l.left - 1) = omega (arith, c.loop-left-test.true) in
-    (search rules, subst (λ (j : ℕ). Passes (upto (name_checks a.f.now) j)) next (passes_more (name_checks a.f.now) i l.invariant.1 (here, tt)))
+pub loop-x-preserved : goal.loop-x-preserved
+loop-x-preserved c =
+    let l = c.loop-x in
+    passes_to c.args.f.now l.x (l.x + 1 - 1) (omega arith)
+    (one_more c.args.f.now l.x l.auto.x l.invariant ((c.marks-m.ensures l.x).to (c.is_marked.ensures.to c.if-not-is_marked.false)))
 
 pub returns : goal.returns
 returns c =
     let a = c.args in
-    let l = c.loop-left in
-    let end : a.v - l.left ≡ a.v = omega arith in
-    answers_passed (upto (name_checks a.f.now) a.v) Yes c.answer_of-2.result
-    (subst (λ (k : ℕ). Passes (upto (name_checks a.f.now) k)) end l.invariant.1) c.answer_of-2.ensures
+    answers_passed (upto (name_checks a.f.now) a.v) Yes (answer yes_number 0) (passes_to a.f.now 0 a.v (grind (arith, c.loop-x.auto.x-end)) (passes_none (name_checks a.f.now))) refl
+
+pub returns-else-not-is_marked : goal.returns-else-not-is_marked
+returns-else-not-is_marked c =
+    let a = c.args in
+    let l = c.loop-x in
+    let all = one_more a.f.now l.x l.auto.x l.invariant ((c.marks-m.ensures l.x).to (c.is_marked.ensures.to c.if-not-is_marked.false)) in
+    answers_passed (upto (name_checks a.f.now) a.v) Yes (answer yes_number 0) (passes_to a.f.now l.x a.v (omega arith) all) refl

@@ -1,11 +1,8 @@
--- What the loops keep, and what falls.
-use Prim.Native.Nat.{◌-◌, ◌≤◌}
+-- What the loops keep.
+use Prim.Native.Nat.{◌-◌}
 use Rattle.logic.specs.Checks.{upto, Passes}
 use Rattle.logic.specs.Strays.{name_checks}
 use Rattle.strays.proofs.named.Given as goal
 
-abbrev pub invariant-loop-left : goal.invariant-loop-left
-invariant-loop-left l = (l.left ≤ l.v) × Passes (upto (name_checks l.f) (l.v - l.left))
-
-abbrev pub decreases-loop-left : goal.decreases-loop-left
-decreases-loop-left l = l.left
+abbrev pub invariant-loop-x : goal.invariant-loop-x
+invariant-loop-x l = Passes (upto (name_checks l.f) (l.x - 1))

@@ -1,13 +1,10 @@
 -- `sweep::fits` meets its contract. Assumes nothing.
 use Rattle.judge.specs.Fitting.{fits_short, fits_not}
-use Rattle.sweep.specs.StartLaws.{is_over, is_judged}
 use Rattle.sweep.proofs.fits.Goals as goal
 
-pub returns-then-j-b : goal.returns-then-j-b
-returns-then-j-b c = is_over _ _ _ c.if-j-b.true
-
 pub returns-then-node_holds : goal.returns-then-node_holds
-returns-then-node_holds c = is_judged _ _ _ _ c.if-j-b.false (fits_short _ _ _ c.requires.0 _ c.requires.1 _ c.node_holds.ensures c.if-node_holds.true _ c.is_short.ensures)
+returns-then-node_holds c = fits_short _ _ _ c.requires.0 _ c.requires.1 _ c.node_holds.ensures c.if-node_holds.true _ c.is_short.ensures
 
 pub returns-else-node_holds : goal.returns-else-node_holds
-returns-else-node_holds c = is_judged _ _ _ _ c.if-j-b.false (fits_not _ _ _ c.requires.0 _ c.requires.1 _ c.node_holds.ensures c.if-node_holds.false)
+returns-else-node_holds c =
+    rw c.if-node_holds.false (fits_not _ _ _ c.requires.0 _ c.requires.1 _ c.node_holds.ensures c.if-node_holds.false)

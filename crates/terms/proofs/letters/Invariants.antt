@@ -1,7 +1,7 @@
--- What the loops keep, and what falls.
+-- What the loop keeps.
 use mathlib.Core.Path.{◌≡◌}
 use mathlib.Core.List.{List}
-use Prim.Native.Nat.{◌+◌, ◌-◌, ◌≤◌, ◌<◌}
+use Prim.Native.Nat.{◌+◌, ◌<◌}
 use lib.ListN.{length}
 use Rattle.grammar.specs.Steps.{onward}
 use Rattle.grammar.specs.Machine.{Frame, Spot, name}
@@ -10,8 +10,5 @@ use Rattle.terms.proofs.letters.Given as goal
 
 abbrev pub invariant-loop-e : goal.invariant-loop-e
 invariant-loop-e l =
-    (l.at ≤ l.e) × (l.e ≤ length l.s) × (0 < l.x) × (l.e + length (letters_of l.w) ≡ l.at + length (letters_of l.x))
+    (0 < l.x) × (l.e + length (letters_of l.w) ≡ l.at + length (letters_of l.x))
     × ((t : Spot) (σ : List Frame) → onward l.s (name (letters_of l.w) t σ) l.at ≡ onward l.s (name (letters_of l.x) t σ) l.e)
-
-abbrev pub decreases-loop-e : goal.decreases-loop-e
-decreases-loop-e l = length l.s - l.e

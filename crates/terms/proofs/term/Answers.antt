@@ -1,58 +1,39 @@
 -- `terms::term` meets its contract. Assumes nothing.
 use mathlib.Core.Path.{◌≡◌, refl, sym, subst, ◌∙◌}
 use mathlib.Core.Bool.{true, false}
-use Prim.Native.Nat.{ℕ, ◌+◌, ◌<◌}
+use Prim.Native.Nat.{ℕ, ◌+◌}
 use native.Mathlib.Omega.{arith}
-use lib.ListN.{length, get_or}
+use lib.ListN.{get_or}
+use Rattle.std.specs.Prelude.{Ok, Err}
+use Rattle.std.proofs.lemmas.Result.{err_from_is_err_and}
 use Rattle.grammar.specs.Phrase.{lower}
-use Rattle.terms.specs.declared.Found.TheVariants.{Term as Reads, Wrong}
 use Rattle.terms.specs.Terms.{LettersIs}
-use Rattle.terms.specs.TermLaws.{is_lower_law, no_term, term_wrong, term_ended}
+use Rattle.terms.specs.TermLaws.{no_term, term_wrong, term_ended}
 use Rattle.terms.proofs.term.Goals as goal
+use Rattle.terms.proofs.term.Goals.{then-s-at-via-then-s-at, then-s-at-via-else-s-at+then-not-is_lower}
 
 pub returns-then-s-at : goal.returns-then-s-at
-returns-then-s-at c = no_term c.args.s.now c.args.last c.args.at c.requires.0 (λ z q. absurd (omega (arith, q.0)))
-
-pub returns-then-not-is_lower : goal.returns-then-not-is_lower
-returns-then-not-is_lower c =
+returns-then-s-at c =
     let a = c.args in
-    let f : c.is_lower.result ≡ false = c.if-not-is_lower.true in
-    no_term a.s.now a.last a.at c.requires.0 (λ z q. (c.requires.1 z q, subst (λ (y : ℕ). lower y ≡ false) q.1 (sym c.is_lower.ensures ∙ f)))
+    no_term a.s.now a.last a.at c.requires.0
+    (elim c.then-s-at.branch [
+      | then-s-at-via-then-s-at w ↦ λ z q. absurd (omega (arith, q.0, w.if-s-at.true))
+      | then-s-at-via-else-s-at+then-not-is_lower w ↦ λ z q. (c.requires.1 z q, subst (λ (y : ℕ). lower y ≡ false) q.1 (sym w.is_lower.ensures ∙ w.if-not-is_lower.true))
+    ])
 
-pub letters-begun-requires : goal.letters-begun-requires
-letters-begun-requires c =
+pub returns-in_err-end : goal.returns-in_err-end
+returns-in_err-end c =
     let a = c.args in
-    let i : a.at < length a.s.now = c.if-s-at.false in
-    let low : c.is_lower.result ≡ true = c.if-not-is_lower.false in
-    let e : lower (get_or a.s.now a.at 0) ≡ true = sym c.is_lower.ensures ∙ low in
-    (omega arith, omega (arith, c.long.ensures, ((is_lower_law (get_or a.s.now a.at 0)).to e).0))
+    let e : lower (get_or a.s.now a.at 0) ≡ true = sym c.is_lower.ensures ∙ c.if-not-is_lower.false in
+    let p = err_from_is_err_and c.from_residual.result c.from_residual.ensures.1 in
+    let x = c.in_err-end.field-0.0 in
+    let q : LettersIs a.s.now (get_or a.s.now a.at 0) (a.at + 1) (Err x) = subst (λ (w : ℕ). LettersIs a.s.now w (a.at + 1) (Err x)) c.from.ensures c.in_err-end.ensures in
+    rw (p.1, p.2) (term_wrong a.s.now a.at c.if-s-at.false (c.requires.1 (get_or a.s.now a.at 0) (c.if-s-at.false, refl)) e a.last x q)
 
-pub ended-requires : goal.ended-requires
-ended-requires c =
+pub returns : goal.returns
+returns c =
     let a = c.args in
-    let i : a.at < length a.s.now = c.if-s-at.false in
-    let low : c.is_lower.result ≡ true = c.if-not-is_lower.false in
-    let e : lower (get_or a.s.now a.at 0) ≡ true = sym c.is_lower.ensures ∙ low in
-    let q : LettersIs a.s.now (get_or a.s.now a.at 0) (a.at + 1) (Reads c.in-Term.e c.in-Term.w) =
-    subst (λ (w : ℕ). LettersIs a.s.now w (a.at + 1) (Reads c.in-Term.e c.in-Term.w)) c.long.ensures (subst (LettersIs a.s.now c.long.result (a.at + 1)) c.in-Term.is c.letters-begun.ensures) in
-    (q.1, q.2, q.3)
-
-pub returns-in-Term : goal.returns-in-Term
-returns-in-Term c =
-    let a = c.args in
-    let i : a.at < length a.s.now = c.if-s-at.false in
-    let low : c.is_lower.result ≡ true = c.if-not-is_lower.false in
-    let e : lower (get_or a.s.now a.at 0) ≡ true = sym c.is_lower.ensures ∙ low in
-    let q : LettersIs a.s.now (get_or a.s.now a.at 0) (a.at + 1) (Reads c.in-Term.e c.in-Term.w) =
-    subst (λ (w : ℕ). LettersIs a.s.now w (a.at + 1) (Reads c.in-Term.e c.in-Term.w)) c.long.ensures (subst (LettersIs a.s.now c.long.result (a.at + 1)) c.in-Term.is c.letters-begun.ensures) in
-    term_ended a.s.now a.at i (c.requires.1 (get_or a.s.now a.at 0) (i, refl)) e a.last c.in-Term.w c.in-Term.e c.ended.result q c.ended.ensures
-
-pub returns-in-Wrong : goal.returns-in-Wrong
-returns-in-Wrong c =
-    let a = c.args in
-    let i : a.at < length a.s.now = c.if-s-at.false in
-    let low : c.is_lower.result ≡ true = c.if-not-is_lower.false in
-    let e : lower (get_or a.s.now a.at 0) ≡ true = sym c.is_lower.ensures ∙ low in
-    let q : LettersIs a.s.now (get_or a.s.now a.at 0) (a.at + 1) (Wrong c.in-Wrong.p) =
-    subst (λ (w : ℕ). LettersIs a.s.now w (a.at + 1) (Wrong c.in-Wrong.p)) c.long.ensures (subst (LettersIs a.s.now c.long.result (a.at + 1)) c.in-Wrong.is c.letters-begun.ensures) in
-    term_wrong a.s.now a.at i (c.requires.1 (get_or a.s.now a.at 0) (i, refl)) e a.last c.in-Wrong.p q
+    let e : lower (get_or a.s.now a.at 0) ≡ true = sym c.is_lower.ensures ∙ c.if-not-is_lower.false in
+    let o = c.in_ok-end in
+    let q : LettersIs a.s.now (get_or a.s.now a.at 0) (a.at + 1) (Ok (o.end, o.w)) = subst (λ (w : ℕ). LettersIs a.s.now w (a.at + 1) (Ok (o.end, o.w))) c.from.ensures o.ensures in
+    term_ended a.s.now a.at c.if-s-at.false (c.requires.1 (get_or a.s.now a.at 0) (c.if-s-at.false, refl)) e a.last o.w o.end c.ended.result q c.ended.ensures

@@ -1,11 +1,7 @@
--- What the loops keep, and what falls.
-use Prim.Native.Nat.{◌-◌, ◌≤◌}
+-- What the loop keeps.
 use Rattle.logic.specs.Checks.{upto, Passes}
 use Rattle.logic.specs.Book.{use_checks}
 use Rattle.tree.proofs.one_parent.Given as goal
 
-abbrev pub invariant-loop-left : goal.invariant-loop-left
-invariant-loop-left l = (l.left ≤ l.last) × Passes (upto (use_checks l.f) (l.last - l.left))
-
-abbrev pub decreases-loop-left : goal.decreases-loop-left
-decreases-loop-left l = l.left
+abbrev pub invariant-loop-k : goal.invariant-loop-k
+invariant-loop-k l = Passes (upto (use_checks l.f) l.k)

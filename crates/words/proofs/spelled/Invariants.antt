@@ -1,14 +1,12 @@
--- What the loops keep, and what falls.
-use mathlib.Core.List.{[]}
-use Prim.Native.Nat.{◌-◌, ◌≤◌}
-use lib.ListN.{length, get_or, drop}
-use Rattle.words.specs.declared.Next.{Next}
-use Rattle.words.specs.Words.{spellings, SpelledIs}
+-- What the loop keeps.
+use Prim.Native.Nat.{ℕ, ◌≤◌}
+use Rattle.std.proofs.Common.{length, drop}
+use Rattle.std.specs.Prelude.{Result}
+use Rattle.words.specs.declared.BadText.{BadText}
+use Rattle.words.specs.Words.{SpelledIs}
 use Rattle.words.proofs.spelled.Given as goal
 
-abbrev pub invariant-loop-j : goal.invariant-loop-j
-invariant-loop-j l =
-    (l.j ≤ 8) × (l.e ≤ length l.s) × ((r : Next) → SpelledIs l.s (drop l.j (get_or spellings l.i [])) l.e r → SpelledIs l.s (drop l.k (get_or spellings l.i [])) l.at r)
-
-abbrev pub decreases-loop-j : goal.decreases-loop-j
-decreases-loop-j l = 8 - l.j
+abbrev pub invariant-loop-c : goal.invariant-loop-c
+invariant-loop-c l =
+    (l.at ≤ l.e) × (l.e ≤ length l.s)
+    × ((r : Result ℕ BadText) → SpelledIs l.s (drop l.c-index l.letters) l.e r → SpelledIs l.s l.letters l.at r)

@@ -1,66 +1,45 @@
 -- `words::word` meets its contract. Assumes nothing.
-use mathlib.Core.Path.{◌≡◌, subst}
+use mathlib.Core.Path.{◌≡◌}
 use mathlib.Core.Bool.{true, false}
-use mathlib.Core.List.{[]}
-use Prim.Native.Nat.{◌+◌, ◌<◌}
+use Prim.Native.Nat.{◌+◌}
 use native.Mathlib.Omega.{arith}
-use lib.ListN.{get_or, drop}
+use Rattle.std.specs.Prelude.{Ok, Err}
+use Rattle.std.proofs.lemmas.Result.{err_from_is_err_and}
 use Rattle.logic.proofs.Reflect.{fails}
-use Rattle.words.specs.declared.Next.TheVariants.{At, Bad}
-use Rattle.words.specs.Words.{spellings, Begins, SpelledIs}
-use Rattle.words.specs.WordLaws.{no_word, no_word_end, word_found, word_unended, word_missed}
+use Rattle.grammar.specs.Phrase.{spelling}
+use Rattle.words.specs.Words.{word_of}
+use Rattle.words.specs.WordLaws.{no_word, no_word_end, spelled_rest, word_found, word_unended, word_missed}
 use Rattle.words.proofs.word.Goals as goal
 
 pub returns-then-s-from : goal.returns-then-s-from
-returns-then-s-from c =
-    let a = c.args in
-    let k = c.skip-from in
-    no_word_end a.s.now a.at k.result k.ensures c.if-s-from.true
+returns-then-s-from c = no_word_end c.args.s.now c.args.at c.skip-from.result c.skip-from.ensures c.if-s-from.true
 
-pub returns-then-i-eq-LIST_WORDS : goal.returns-then-i-eq-LIST_WORDS
-returns-then-i-eq-LIST_WORDS c =
-    let a = c.args in
-    let k = c.skip-from in
-    let n = c.begun-i in
-    no_word a.s.now a.at k.result k.ensures (subst (Begins (get_or a.s.now k.result 0)) c.if-i-eq-LIST_WORDS.true n.ensures)
+pub returns-in_default : goal.returns-in_default
+returns-in_default c = no_word c.args.s.now c.args.at c.skip-from.result c.skip-from.ensures c.in_default.ensures
 
-pub spelled-rest-requires : goal.spelled-rest-requires
-spelled-rest-requires c = (omega arith, omega (arith, c.begun-i.ensures.0), omega arith)
-
-pub edge-requires : goal.edge-requires
-edge-requires c =
-    let a = c.args in
+pub returns-in_err-end : goal.returns-in_err-end
+returns-in_err-end c =
+    let s = c.args.s.now in
     let k = c.skip-from in
-    let n = c.begun-i in
-    let m : n.result < 9 = omega (arith, n.ensures.0) in
-    let q : SpelledIs a.s.now (drop 1 (get_or spellings n.result [])) (k.result + 1) (At c.in-At.e) = subst (SpelledIs a.s.now (drop 1 (get_or spellings n.result [])) (k.result + 1)) c.in-At.is c.spelled-rest.ensures in
-    q.2
+    let w = c.in-Some.word in
+    let p = err_from_is_err_and c.from_residual.result c.from_residual.ensures.1 in
+    let q = spelled_rest s c.letters.result.now (spelling (word_of w)) (k.result + 1) (Err c.in_err-end.field-0.0) c.letters.ensures c.in_err-end.ensures in
+    rw (p.1, p.2) (word_missed s c.args.at k.result w k.ensures c.if-s-from.false c.in-Some.ensures c.in_err-end.field-0.0 q)
 
 pub returns-then-not-edge : goal.returns-then-not-edge
 returns-then-not-edge c =
-    let a = c.args in
+    let s = c.args.s.now in
     let k = c.skip-from in
-    let n = c.begun-i in
-    let m : n.result < 9 = omega (arith, n.ensures.0) in
-    let q : SpelledIs a.s.now (drop 1 (get_or spellings n.result [])) (k.result + 1) (At c.in-At.e) = subst (SpelledIs a.s.now (drop 1 (get_or spellings n.result [])) (k.result + 1)) c.in-At.is c.spelled-rest.ensures in
+    let w = c.in-Some.word in
+    let q = spelled_rest s c.letters.result.now (spelling (word_of w)) (k.result + 1) (Ok c.in_ok-end.end) c.letters.ensures c.in_ok-end.ensures in
     let f : c.edge.result ≡ false = c.if-not-edge.true in
-    word_unended a.s.now a.at k.result n.result k.ensures c.if-s-from.false m n.ensures c.in-At.e q (fails _ c.edge.ensures f)
+    word_unended s c.args.at k.result w k.ensures c.if-s-from.false c.in-Some.ensures c.in_ok-end.end q (fails _ c.edge.ensures f)
 
-pub returns-else-not-edge : goal.returns-else-not-edge
-returns-else-not-edge c =
-    let a = c.args in
+pub returns : goal.returns
+returns c =
+    let s = c.args.s.now in
     let k = c.skip-from in
-    let n = c.begun-i in
-    let m : n.result < 9 = omega (arith, n.ensures.0) in
-    let q : SpelledIs a.s.now (drop 1 (get_or spellings n.result [])) (k.result + 1) (At c.in-At.e) = subst (SpelledIs a.s.now (drop 1 (get_or spellings n.result [])) (k.result + 1)) c.in-At.is c.spelled-rest.ensures in
+    let w = c.in-Some.word in
+    let q = spelled_rest s c.letters.result.now (spelling (word_of w)) (k.result + 1) (Ok c.in_ok-end.end) c.letters.ensures c.in_ok-end.ensures in
     let f : c.edge.result ≡ true = c.if-not-edge.false in
-    (m, omega (arith, q.1, k.ensures.from), q.2, word_found a.s.now a.at k.result n.result k.ensures c.if-s-from.false m n.ensures c.in-At.e q (c.edge.ensures.to f))
-
-pub returns-in-Bad : goal.returns-in-Bad
-returns-in-Bad c =
-    let a = c.args in
-    let k = c.skip-from in
-    let n = c.begun-i in
-    let m : n.result < 9 = omega (arith, n.ensures.0) in
-    let q : SpelledIs a.s.now (drop 1 (get_or spellings n.result [])) (k.result + 1) (Bad c.in-Bad.p) = subst (SpelledIs a.s.now (drop 1 (get_or spellings n.result [])) (k.result + 1)) c.in-Bad.is c.spelled-rest.ensures in
-    word_missed a.s.now a.at k.result n.result k.ensures c.if-s-from.false m n.ensures c.in-Bad.p q
+    (omega (arith, q.1, k.ensures.from), q.2, word_found s c.args.at k.result w k.ensures c.if-s-from.false c.in-Some.ensures c.in_ok-end.end q (c.edge.ensures.to f))

@@ -3,7 +3,8 @@ use mathlib.Core.Path.{refl}
 use native.Mathlib.Omega.{arith}
 use Rattle.logic.specs.Table.{op_of, operand_of, tree}
 use Rattle.logic.proofs.KnownLaws.{operator_some, variables, lower}
-use Rattle.put.specs.PutsLaws.{puts_puts, puts_as, room_first, room_behind, room_as}
+use Rattle.put.specs.PutsLaws.{room_first, room_as}
+use Rattle.put.specs.PensLaws.{space_behind, writes_writes, writes_as}
 use Rattle.ownwords.specs.OwnWords.{text, before, between, behind}
 use Rattle.ownwords.specs.OwnWordLaws.{room_to_between, room_to_second}
 use Rattle.writer.specs.TextLaws.{text_atom, text_not, text_join, room_to_a}
@@ -36,81 +37,96 @@ bounds-f-k-3 t c = omega (arith, c.requires.1.1.0.bytes)
 pub put_atom-requires : goal.put_atom-requires
 put_atom-requires t c =
     let a = c.args in
+    let p = a.pen.now in
     let z = c.requires in
     let s = operator_some z.1.0 a.f.now z.1.1.0 a.k 0 0 z.0 in
     let i = variables z.1.0 a.f.now z.1.1.0 a.k _ _ z.0 refl refl (omega arith) in
-    (s.0, omega arith, omega (arith, i.0, z.1.1.1), omega (arith, i.1, z.1.1.1), room_as a.at a.out.now (text_atom z.1.0 a.f.now z.1.1.0 a.k _ _ z.0 refl refl (omega arith)) z.2)
+    (s.0, omega arith, omega (arith, i.0, z.1.1.1), omega (arith, i.1, z.1.1.1), room_as p.at p.out.now (text_atom z.1.0 a.f.now z.1.1.0 a.k _ _ z.0 refl refl (omega arith)) z.2)
 
 pub returns-then-op-le4 : goal.returns-then-op-le4
 returns-then-op-le4 t c =
     let a = c.args in
     let z = c.requires in
-    puts_as (text_atom z.1.0 a.f.now z.1.1.0 a.k _ _ z.0 refl refl (omega arith)) c.put_atom.ensures
+    writes_as (text_atom z.1.0 a.f.now z.1.1.0 a.k _ _ z.0 refl refl (omega arith)) c.put_atom.ensures
 
-pub put_before-first-requires : goal.put_before-first-requires
-put_before-first-requires t c =
+pub before-requires : goal.before-requires
+before-requires t c = let z = c.requires in operator_some z.1.0 c.args.f.now z.1.1.0 c.args.k 0 0 z.0
+
+pub put_word-requires : goal.put_word-requires
+put_word-requires t c =
     let a = c.args in
+    let p = a.pen.now in
     let z = c.requires in
-    let s = operator_some z.1.0 a.f.now z.1.1.0 a.k 0 0 z.0 in
     let x = operand_of a.f.now a.k 0 in
-    (s.0, s.1, room_first a.at (before (op_of a.f.now a.k)) (text (tree a.f.now x)) a.out.now (room_to_a z.1.0 a.f.now z.1.1.0 a.k x _ z.0 refl refl (omega arith) a.at a.out.now z.2))
+    room_as p.at p.out.now c.before-2.ensures
+    (room_first p.at (before (op_of a.f.now a.k)) (text (tree a.f.now x)) p.out.now (room_to_a z.1.0 a.f.now z.1.1.0 a.k x _ z.0 refl refl (omega arith) p.at p.out.now z.2))
 
-pub put_node-a-requires : goal.put_node-a-requires
-put_node-a-requires t c =
+pub put_node-requires : goal.put_node-requires
+put_node-requires t c =
     let a = c.args in
+    let p = a.pen.now in
     let z = c.requires in
-    let e = c.wide.ensures.0 in
+    let e = c.from.ensures in
     let i = lower z.1.0 a.f.now z.1.1.0 a.k _ _ z.0 e refl (omega arith) in
-    (omega (arith, i.0, c.decreases), (omega (arith, i.0, z.0), z.1, room_behind c.put_before-first.ensures _ (room_to_a z.1.0 a.f.now z.1.1.0 a.k _ _ z.0 e refl (omega arith) a.at a.out.now z.2)))
+    let u = writes_as c.before-2.ensures c.put_word.ensures in
+    (omega (arith, i.0, c.decreases), (omega (arith, i.0, z.0), z.1, space_behind u _ (room_to_a z.1.0 a.f.now z.1.1.0 a.k _ _ z.0 e refl (omega arith) p.at p.out.now z.2)))
 
-pub put_behind-requires : goal.put_behind-requires
-put_behind-requires t c =
+pub put_word-requires-then-op-eq8 : goal.put_word-requires-then-op-eq8
+put_word-requires-then-op-eq8 t c =
     let a = c.args in
+    let p = a.pen.now in
+    let q = c.put_node.new.pen in
     let z = c.requires in
-    let s = operator_some z.1.0 a.f.now z.1.1.0 a.k 0 0 z.0 in
-    let d = text_not z.1.0 a.f.now z.1.1.0 a.k _ _ z.0 c.wide.ensures.0 refl (omega arith) c.if-op-eq8.true in
-    (s.0, s.1, room_behind (puts_puts c.put_before-first.ensures c.put_node-a.ensures) (behind (op_of a.f.now a.k)) (room_as a.at a.out.now d z.2))
+    let d = text_not z.1.0 a.f.now z.1.1.0 a.k _ _ z.0 c.from.ensures refl (omega arith) c.if-op-eq8.true in
+    let u = writes_writes (writes_as c.before-2.ensures c.put_word.ensures) c.put_node.ensures in
+    room_as q.at q.out.now c.behind.ensures (space_behind u (behind (op_of a.f.now a.k)) (room_as p.at p.out.now d z.2))
 
 pub returns-then-op-eq8 : goal.returns-then-op-eq8
 returns-then-op-eq8 t c =
     let a = c.args in
     let z = c.requires in
-    let d = text_not z.1.0 a.f.now z.1.1.0 a.k _ _ z.0 c.wide.ensures.0 refl (omega arith) c.if-op-eq8.true in
-    puts_as d (puts_puts (puts_puts c.put_before-first.ensures c.put_node-a.ensures) c.put_behind.ensures)
+    let d = text_not z.1.0 a.f.now z.1.1.0 a.k _ _ z.0 c.from.ensures refl (omega arith) c.if-op-eq8.true in
+    let u = writes_writes (writes_as c.before-2.ensures c.put_word.ensures) c.put_node.ensures in
+    writes_as d (writes_writes u (writes_as c.behind.ensures c.put_word-then-op-eq8.ensures))
 
-pub put_between-second-requires : goal.put_between-second-requires
-put_between-second-requires t c =
+pub put_word-requires-2 : goal.put_word-requires-2
+put_word-requires-2 t c =
     let a = c.args in
+    let p = a.pen.now in
+    let q = c.put_node.new.pen in
     let z = c.requires in
-    let s = operator_some z.1.0 a.f.now z.1.1.0 a.k 0 0 z.0 in
     let y = operand_of a.f.now a.k 1 in
-    let d = text_join z.1.0 a.f.now z.1.1.0 a.k _ y z.0 c.wide.ensures.0 refl (omega arith) c.if-op-eq8.false in
-    (s.0, s.1, c.if-op-eq8.false, room_behind (puts_puts c.put_before-first.ensures c.put_node-a.ensures) (between (op_of a.f.now a.k)) (room_to_between (op_of a.f.now a.k) a.at _ (text (tree a.f.now y)) a.out.now (room_as a.at a.out.now d z.2)))
+    let d = text_join z.1.0 a.f.now z.1.1.0 a.k _ y z.0 c.from.ensures refl (omega arith) c.if-op-eq8.false in
+    let u = writes_writes (writes_as c.before-2.ensures c.put_word.ensures) c.put_node.ensures in
+    room_as q.at q.out.now c.between.ensures
+    (space_behind u (between (op_of a.f.now a.k)) (room_to_between (op_of a.f.now a.k) p.at _ (text (tree a.f.now y)) p.out.now (room_as p.at p.out.now d z.2)))
 
-pub put_node-b-requires : goal.put_node-b-requires
-put_node-b-requires t c =
+pub put_node-requires-2 : goal.put_node-requires-2
+put_node-requires-2 t c =
     let a = c.args in
+    let p = a.pen.now in
     let z = c.requires in
-    let ex = c.wide.ensures.0 in
-    let ey = c.wide-2.ensures.0 in
+    let ex = c.from.ensures in
+    let ey = c.from-2.ensures in
     let i = lower z.1.0 a.f.now z.1.1.0 a.k _ _ z.0 ex ey (omega arith) in
     let d = text_join z.1.0 a.f.now z.1.1.0 a.k _ _ z.0 ex ey (omega arith) c.if-op-eq8.false in
-    let u = puts_puts (puts_puts c.put_before-first.ensures c.put_node-a.ensures) c.put_between-second.ensures in
-    (omega (arith, i.1, c.decreases), (omega (arith, i.1, z.0), z.1, room_behind u _ (room_to_second (op_of a.f.now a.k) a.at _ _ a.out.now (room_as a.at a.out.now d z.2))))
+    let u = writes_writes (writes_writes (writes_as c.before-2.ensures c.put_word.ensures) c.put_node.ensures) (writes_as c.between.ensures c.put_word-2.ensures) in
+    (omega (arith, i.1, c.decreases), (omega (arith, i.1, z.0), z.1, space_behind u _ (room_to_second (op_of a.f.now a.k) p.at _ _ p.out.now (room_as p.at p.out.now d z.2))))
 
-pub put_behind-requires-2 : goal.put_behind-requires-2
-put_behind-requires-2 t c =
+pub put_word-requires-3 : goal.put_word-requires-3
+put_word-requires-3 t c =
     let a = c.args in
+    let p = a.pen.now in
+    let q = c.put_node-2.new.pen in
     let z = c.requires in
-    let s = operator_some z.1.0 a.f.now z.1.1.0 a.k 0 0 z.0 in
-    let d = text_join z.1.0 a.f.now z.1.1.0 a.k _ _ z.0 c.wide.ensures.0 c.wide-2.ensures.0 (omega arith) c.if-op-eq8.false in
-    let u = puts_puts (puts_puts (puts_puts c.put_before-first.ensures c.put_node-a.ensures) c.put_between-second.ensures) c.put_node-b.ensures in
-    (s.0, s.1, room_behind u (behind (op_of a.f.now a.k)) (room_as a.at a.out.now d z.2))
+    let d = text_join z.1.0 a.f.now z.1.1.0 a.k _ _ z.0 c.from.ensures c.from-2.ensures (omega arith) c.if-op-eq8.false in
+    let u = writes_writes (writes_writes (writes_as c.before-2.ensures c.put_word.ensures) c.put_node.ensures) (writes_as c.between.ensures c.put_word-2.ensures) in
+    room_as q.at q.out.now c.behind-2.ensures (space_behind (writes_writes u c.put_node-2.ensures) (behind (op_of a.f.now a.k)) (room_as p.at p.out.now d z.2))
 
 pub returns : goal.returns
 returns t c =
     let a = c.args in
     let z = c.requires in
-    let d = text_join z.1.0 a.f.now z.1.1.0 a.k _ _ z.0 c.wide.ensures.0 c.wide-2.ensures.0 (omega arith) c.if-op-eq8.false in
-    let u = puts_puts (puts_puts (puts_puts c.put_before-first.ensures c.put_node-a.ensures) c.put_between-second.ensures) c.put_node-b.ensures in
-    puts_as d (puts_puts u c.put_behind-2.ensures)
+    let d = text_join z.1.0 a.f.now z.1.1.0 a.k _ _ z.0 c.from.ensures c.from-2.ensures (omega arith) c.if-op-eq8.false in
+    let u = writes_writes (writes_writes (writes_as c.before-2.ensures c.put_word.ensures) c.put_node.ensures) (writes_as c.between.ensures c.put_word-2.ensures) in
+    writes_as d (writes_writes (writes_writes u c.put_node-2.ensures) (writes_as c.behind-2.ensures c.put_word-3.ensures))

@@ -1,0 +1,2 @@
+-- Laws of the answers that refusals are. Assumes nothing.
+pub mod Refusals

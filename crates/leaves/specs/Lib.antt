@@ -1,0 +1,2 @@
+-- The answers that refusals are. Assumes nothing.
+pub mod Refusals

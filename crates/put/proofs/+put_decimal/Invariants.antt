@@ -1,5 +1,0 @@
--- What the loops keep, and what falls.
-use Rattle.put.proofs.+put_decimal.Given as goal
-
-abbrev pub decreases-put_decimal : goal.decreases-put_decimal
-decreases-put_decimal l = l.x
