@@ -8,7 +8,7 @@ ghost use Rattle.logic.specs.Book.{body_checks, Reads, Bodies};
 ghost use Rattle.leaves.specs.Refusals.{outcome};
 
 use contents::part;
-use leaves::{Refusal, answer_of};
+use leaves::{Refusal, done};
 use logic::{Answer, MOST};
 use nodes::nodes;
 use tree::one_parent;
@@ -67,8 +67,5 @@ pub fn open(book: &[u8]) -> Result<Problem, Refusal>
 pub fn read(book: &[u8]) -> Answer
     ensures { Reads book.now result }
 {
-    match open(book) {
-        Ok(_) => answer_of(logic::YES, 0),
-        Err(refusal) => refusal.into(),
-    }
+    done(open(book).map(|_| ()))
 }

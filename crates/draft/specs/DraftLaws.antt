@@ -1,5 +1,5 @@
 -- How nodes are added to a table. Assumes nothing.
-use Rattle.std.specs.Prelude.{◌≡◌, refl, Option, None, Some, ℕ, suc, ◌+◌, ◌-◌, ◌*◌, ◌<◌, length, take, set}
+use Rattle.std.specs.Prelude.{◌≡◌, refl, Option, None, Some, ℕ, suc, ◌+◌, ◌-◌, ◌*◌, ◌<◌, ◌≤◌, length, take, set}
 use Rattle.std.proofs.Common.{sym, ap, ◌∙◌, arith, length-set, take-suc-set}
 use Rattle.std.proofs.Math.Path.{subst}
 use mathlib.Core.List.{List, [], ◌∷◌, ◌++◌, append_assoc}
@@ -13,7 +13,7 @@ use Rattle.words.specs.declared.Join.{Join as Joined}
 use Rattle.words.specs.declared.Atom.{Atom as Related}
 use Rattle.words.specs.Words.{join_of, atom_of}
 use Rattle.draft.specs.declared.Nodes.{Nodes}
-use Rattle.draft.specs.Drafts.{join_tail, any_tail, bytes_in, Ready, Adds, NodesIs}
+use Rattle.draft.specs.Drafts.{join_tail, any_tail, bytes_in, Adds, NodesIs}
 
 -- three bytes behind the first k of a table
 three : (t : List ℕ) (k a b c : ℕ) → k + 2 < length t → take (suc (suc (suc k))) (set (set (set t k a) (k + 1) b) (k + 2) c) ≡ take k t ++ (a ∷ b ∷ c ∷ [])
@@ -25,20 +25,20 @@ three t k a b c h =
     ∙ ap (λ (x : List ℕ). x ++ (c ∷ [])) (take-suc-set (set t k a) (suc k) b (omega (arith, length-set t k a)) ∙ ap (λ (x : List ℕ). x ++ (b ∷ [])) (take-suc-set t k a (omega arith)))
     ∙ append_assoc (take k t ++ (a ∷ [])) (b ∷ []) (c ∷ []) ∙ append_assoc (take k t) (a ∷ []) (b ∷ c ∷ []))
 
-pub one_more_node : (d : Nodes) (op a b : ℕ) → Ready d → d.count < most_nodes
-    → Adds d 1 (op ∷ a ∷ b ∷ []) (record { table = set (set (set d.table (3 * d.count) op) (3 * d.count + 1) a) (3 * d.count + 2) b; count = d.count + 1 })
-one_more_node d op a b q l =
+pub one_more_node : (d : Nodes) (op a b : ℕ) → d.count < most_nodes → (g : length (set (set (set d.table (3 * d.count) op) (3 * d.count + 1) a) (3 * d.count + 2) b) ≡ 3 * most_nodes) → (f : d.count + 1 ≤ most_nodes)
+    → Adds d 1 (op ∷ a ∷ b ∷ []) (record { table = set (set (set d.table (3 * d.count) op) (3 * d.count + 1) a) (3 * d.count + 2) b; count = d.count + 1; long = g; few = f })
+one_more_node d op a b l g f =
     let t = d.table in
     let n = d.count in
     let k : 3 * (n + 1) ≡ suc (suc (suc (3 * n))) = omega arith in
     let u = set (set (set t (3 * n) op) (3 * n + 1) a) (3 * n + 2) b in
     record {
       ready = record {
-        long = length-set (set (set t (3 * n) op) (3 * n + 1) a) (3 * n + 2) b ∙ length-set (set t (3 * n) op) (3 * n + 1) a ∙ length-set t (3 * n) op ∙ q.long;
-        few = omega (arith, l);
+        long = g;
+        few = f;
       };
       nodes = refl;
-      bytes = ap (λ (m : ℕ). take m u) k ∙ three t (3 * n) op a b (omega (arith, q.long, l));
+      bytes = ap (λ (m : ℕ). take m u) k ∙ three t (3 * n) op a b (omega (arith, d.long, l));
     }
 
 -- nodes behind nodes

@@ -1,7 +1,7 @@
 // The nodes of what has been read of a text, in order of completion.
 #![tactic(auto)]
 
-ghost use Rattle.std.specs.Prelude.{[], ◌∷◌, ◌-◌, ◌<◌};
+ghost use Rattle.std.specs.Prelude.{◌≡◌, [], ◌∷◌, ◌-◌, ◌*◌, ◌<◌, ◌≤◌, length};
 ghost use Rattle.logic.specs.Book.{most_nodes};
 ghost use Rattle.grammar.specs.Grammar.{adds};
 ghost use Rattle.grammar.specs.Phrase.{joins, relates};
@@ -9,7 +9,6 @@ ghost use Rattle.grammar.specs.Phrase.Join.{wand_word};
 ghost use Rattle.grammar.specs.Listing.{listing};
 ghost use Rattle.grammar.specs.Meaning.{atom_form};
 ghost use Rattle.words.specs.Words.{join_of, atom_of};
-ghost use Rattle.draft.specs.Drafts.{join_tail, any_tail, Ready, Adds, NodesIs};
 
 use logic::{NODES, Table};
 use words::{Atom, Join};
@@ -19,12 +18,16 @@ use words::{Atom, Join};
 pub struct Nodes {
     pub table: Table,
     pub count: usize,
+    pub ghost long: { length table ≡ 3 * most_nodes },
+    pub ghost few: { count ≤ most_nodes },
 }
 
 impl Nodes {
+    ghost use Rattle.draft.specs.Drafts.{join_tail, any_tail, Adds, NodesIs};
+
     // One node behind the others.
     fn with_node(&mut self, op: u8, a: u8, b: u8)
-        requires { Ready self.old × (self.old.count < most_nodes) }
+        requires { self.old.count < most_nodes }
         ensures { Adds self.old 1 (op ∷ a ∷ b ∷ []) self.new }
     {
         let k = 3 * self.count;
@@ -36,7 +39,6 @@ impl Nodes {
 
     // An item of one node. None where the nodes are too many.
     pub fn one_node(&mut self, op: u8, a: u8, b: u8) -> Option<()>
-        requires { Ready self.old }
         ensures { NodesIs self.old 1 (op ∷ a ∷ b ∷ []) result self.new }
     {
         if NODES < self.count + 1 {
@@ -48,7 +50,7 @@ impl Nodes {
 
     // A negation of the last node.
     pub fn denied(&mut self) -> Option<()>
-        requires { Ready self.old × (0 < self.old.count) }
+        requires { 0 < self.old.count }
         ensures { NodesIs self.old 1 (8 ∷ (self.old.count - 1) ∷ 0 ∷ []) result self.new }
     {
         self.one_node(8, (self.count - 1) as u8, 0)
@@ -56,7 +58,7 @@ impl Nodes {
 
     // A wand: the negation of a septraction of the formula before node m with the negation of the last node.
     fn wand(&mut self, m: usize) -> Option<()>
-        requires { Ready self.old × (0 < m) × (m < self.old.count) }
+        requires { (0 < m) × (m < self.old.count) }
         ensures { NodesIs self.old 3 (join_tail wand_word m self.old.count) result self.new }
     {
         let n = self.count;
@@ -71,7 +73,7 @@ impl Nodes {
 
     // A list of two formulas, the first of which ends before node m, the second at the last.
     pub fn joined(&mut self, word: Join, m: usize) -> Option<()>
-        requires { Ready self.old × (0 < m) × (m < self.old.count) }
+        requires { (0 < m) × (m < self.old.count) }
         ensures { NodesIs self.old (adds (joins (join_of word))) (join_tail (join_of word) m self.old.count) result self.new }
     {
         let a = (m - 1) as u8;
@@ -86,7 +88,6 @@ impl Nodes {
 
     // Operator 1 or 2 that holds on any heap.
     fn anywhere(&mut self, op: u8, x: u8, y: u8) -> Option<()>
-        requires { Ready self.old }
         ensures { NodesIs self.old 4 (any_tail op x y self.old.count) result self.new }
     {
         let n = self.count;
@@ -102,7 +103,6 @@ impl Nodes {
 
     // A list of two terms.
     pub fn related(&mut self, word: Atom, x: u8, y: u8) -> Option<()>
-        requires { Ready self.old }
         ensures { NodesIs self.old (adds (relates (atom_of word))) (listing self.old.count (atom_form (atom_of word) x y)) result self.new }
     {
         match word {

@@ -4,7 +4,7 @@
 ghost use Rattle.std.specs.Prelude.{◌≡◌, ◌+◌, ◌≤◌, ◌<◌, length};
 ghost use Rattle.leaves.specs.Refusals.{outcome};
 ghost use Rattle.logic.specs.Table.{tree};
-ghost use Rattle.logic.specs.Book.{most, root, KnownTable};
+ghost use Rattle.logic.specs.Book.{root, KnownTable};
 ghost use Rattle.rows.specs.Row.{bytes_of};
 ghost use Rattle.rows.specs.Table.{apart_row_count, rows_in, table};
 ghost use Rattle.rows.specs.Bounds.{own_row_count};
@@ -15,7 +15,7 @@ ghost use Rattle.encoder.specs.Writable.{RoomTable, Writable};
 use book::open;
 use encodable::encodable;
 use head::{HEAD, put_head};
-use leaves::{Refusal, answer_of};
+use leaves::{Refusal, done};
 use logic::{Answer, Profile};
 use ownrows::put_long;
 use rowbytes::Writer;
@@ -49,7 +49,7 @@ fn own_rows(profile: Profile, op: u8, n: u8) -> u16
 
 // How many rows the table has: those of the formula, LONG and its AND.
 fn row_count(source: &Source) -> u16
-    requires { KnownTable source.now.formula.now × (source.now.n < 255) }
+    requires { KnownTable source.now.formula.now }
     ensures { result ≡ rows_in source.now.profile source.now.n (tree source.now.formula.now (root source.now.formula.now)) + 2 }
 {
     let f = source.formula;
@@ -62,7 +62,7 @@ fn row_count(source: &Source) -> u16
 
 // Writes the table: the rows of the formula, LONG and its AND.
 fn put_table(out: &mut [u8], source: &Source, p: u8)
-    requires { KnownTable source.now.formula.now × (source.now.n ≤ most) × RoomTable source.now.profile source.now.n (tree source.now.formula.now (root source.now.formula.now)) out.old }
+    requires { KnownTable source.now.formula.now × RoomTable source.now.profile source.now.n (tree source.now.formula.now (root source.now.formula.now)) out.old }
     ensures { out.new ≡ put 0 (bytes_of (table source.now.profile source.now.n p (tree source.now.formula.now (root source.now.formula.now)))) out.old }
 {
     let next = Next {
@@ -113,8 +113,5 @@ fn encoded(profile: Profile, book: &[u8], out: &mut [u8]) -> Result<(), Refusal>
 pub fn encode(profile: Profile, book: &[u8], out: &mut [u8]) -> Answer
     ensures { Encodes profile book.now out.old result out.new }
 {
-    match encoded(profile, book, out) {
-        Ok(()) => answer_of(logic::YES, 0),
-        Err(refusal) => refusal.into(),
-    }
+    done(encoded(profile, book, out))
 }

@@ -10,7 +10,7 @@ use Rattle.grammar.specs.Steps.{onward}
 use Rattle.grammar.proofs.Steps.{looks, ended, skip_over}
 use Rattle.logic.specs.declared.Answer.{Answer}
 use Rattle.logic.specs.Numbers.{answer, yes_number, bounds, output_length}
-use Rattle.logic.specs.Book.{most, head_of}
+use Rattle.logic.specs.Book.{most, most_nodes, head_of}
 use Rattle.grammar.specs.Machine.{item, step as next, bad, alive, ending, over}
 use Rattle.grammar.specs.Outcome.{outcome}
 use Rattle.grammar.specs.Verdicts.{Taken, Settled}
@@ -33,11 +33,11 @@ use Rattle.import.specs.Wholes.{Whole, WholeIs, written}
 
 -- ---- the text
 
-module _ (s t l : List ℕ) where
-  pub whole_refused : (x : Refusal) (d : Draft) → ReadIs s item 0 0 (draft t 0 l 0) (step (Err x) d) → WholeIs s (Err x)
+module _ (s t l : List ℕ) (h : length t ≡ 3 * most_nodes) (f : 0 ≤ most_nodes) (i : length l ≡ most) (g : 0 ≤ most) where
+  pub whole_refused : (x : Refusal) (d : Draft) → ReadIs s item 0 0 (draft t 0 h f l 0 i g) (step (Err x) d) → WholeIs s (Err x)
   whole_refused x d h = h.refuses (never_zero x) [] refl
 
-  module _ (b : Step) (q : Read s item 0 0 (draft t 0 l 0) b) (j : ℕ) (k : Skipped s b.at j) where
+  module _ (b : Step) (q : Read s item 0 0 (draft t 0 h f l 0 i g) b) (j : ℕ) (k : Skipped s b.at j) where
     -- something stands behind the formula
     pub whole_open : j < length s → WholeIs s (Err (not_text j))
     unfolding outcome next alive

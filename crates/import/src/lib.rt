@@ -10,7 +10,7 @@ ghost use Rattle.import.specs.Wholes.{WholeIs, written};
 use draft::Nodes;
 use head::{HEAD, put_head};
 use items::Draft;
-use leaves::{Refusal, answer_of};
+use leaves::{Refusal, done};
 use logic::{Answer, MOST, TABLE};
 use names::Names;
 use words::skip;
@@ -65,8 +65,5 @@ fn text_to_book(text: &[u8], n: u64, p: u64, out: &mut [u8]) -> Result<(), Refus
 pub fn import(text: &[u8], n: u64, p: u64, out: &mut [u8]) -> Answer
     ensures { Imports text.now n p out.old result out.new }
 {
-    match text_to_book(text, n, p, out) {
-        Ok(()) => answer_of(logic::YES, 0),
-        Err(refusal) => refusal.into(),
-    }
+    done(text_to_book(text, n, p, out))
 }

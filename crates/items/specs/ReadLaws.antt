@@ -20,6 +20,7 @@ use Rattle.leaves.specs.declared.Refusal.{Refusal}
 use Rattle.leaves.specs.declared.Refusal.TheVariants.{ManyNodes as too_many}
 use Rattle.draft.specs.declared.Nodes.{Nodes}
 use Rattle.names.specs.Names.{held, Fine as FineNames}
+use Rattle.names.specs.NameLaws.{all_fine}
 use Rattle.draft.specs.Drafts.{NodesIs}
 use Rattle.items.specs.declared.Draft.{Draft}
 use Rattle.items.specs.Readings.{Step, step, FinishedIs, ClosedIs, form_in, bytes_of, Read, ReadIs}
@@ -101,9 +102,9 @@ module _ (s : List ℕ) (depth i : ℕ) (d : Draft) where
     unfolding outcome
     emp_open z g w a = refuses_as bad_text e (omega arith) w a (λ σ l. reach z σ ∙ ap (outcome (held d.names) u.count) (emp_no_edge s σ e g q.1))
 
-    pub emp_read : n ≡ Some tt → Edge s e → FineNames d.names → ReadIs s item depth i d (step (Ok e) (record { nodes = u; names = d.names }))
+    pub emp_read : n ≡ Some tt → Edge s e → ReadIs s item depth i d (step (Ok e) (record { nodes = u; names = d.names }))
     unfolding collect form_of listing size_of
-    emp_read z g f =
+    emp_read z g =
         let c = h.fits z in
         record {
           read = λ _.
@@ -111,7 +112,7 @@ module _ (s : List ℕ) (depth i : ℕ) (d : Draft) where
                 phrase = emp;
                 from = q.0;
                 inside = q.1;
-                fine = record { ready = c.ready; names = f };
+                fine = record { ready = c.ready; names = all_fine d.names };
                 names = refl;
                 nodes = c.nodes;
                 bytes = c.bytes;

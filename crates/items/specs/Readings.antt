@@ -1,6 +1,7 @@
 -- What the readers of items and lists find. Assumes nothing: these are definitions.
-use Rattle.std.specs.Prelude.{◌≡◌, false, Option, None, Some, Result, Ok, Err, List, ◌++◌, ◌⊎◌, ℕ, ◌+◌, ◌-◌, ◌≤◌, ◌<◌, length}
+use Rattle.std.specs.Prelude.{◌≡◌, false, Option, None, Some, Result, Ok, Err, List, ◌++◌, ◌⊎◌, ℕ, ◌+◌, ◌-◌, ◌*◌, ◌≤◌, ◌<◌, length}
 use Rattle.logic.specs.Numbers.{yes_number}
+use Rattle.logic.specs.Book.{most, most_nodes}
 use Rattle.logic.specs.Formula.{Form}
 use Rattle.leaves.specs.declared.Refusal.{Refusal}
 use Rattle.leaves.specs.declared.Refusal.TheVariants.{BadText as bad_text, ManyNodes as too_many}
@@ -18,8 +19,8 @@ use Rattle.draft.specs.Drafts.{bytes_in, Ready}
 use Rattle.items.specs.declared.Draft.{Draft}
 
 -- what has been read so far: the nodes in their table, and the names
-abbrev pub draft : List ℕ → ℕ → List ℕ → ℕ → Draft
-draft t n l k = record { nodes = record { table = t; count = n }; names = names_of l k }
+abbrev pub draft : (t : List ℕ) (n : ℕ) → length t ≡ 3 * most_nodes → n ≤ most_nodes → (l : List ℕ) (k : ℕ) → length l ≡ most → k ≤ most → Draft
+draft t n h f l k i g = record { nodes = record { table = t; count = n; long = h; few = f }; names = names_of l k i g }
 
 pub record Fine (d : Draft) : Type 0 where
   pub ready : Ready d.nodes

@@ -8,7 +8,7 @@ ghost use Rattle.grammar.specs.Machine.{item as an_item, head};
 ghost use Rattle.grammar.specs.Phrase.{joins, denies, relates};
 ghost use Rattle.grammar.specs.Steps.{waits};
 ghost use Rattle.words.specs.Words.{join_of, atom_of, FreeItem};
-ghost use Rattle.items.specs.Readings.{Fine, step, FinishedIs, ClosedIs, ReadIs};
+ghost use Rattle.items.specs.Readings.{step, FinishedIs, ClosedIs, ReadIs};
 
 use draft::Nodes;
 use leaves::Refusal;
@@ -55,7 +55,7 @@ fn opens(s: &[u8], at: usize) -> bool
 impl Draft {
     // `sep.emp`, where neither a blank nor a list stands. It is finished at its last byte, and only then looked behind.
     fn empty(&mut self, s: &[u8], at: usize) -> Result<usize, Refusal>
-        requires { (at ≤ length s.now) × FreeItem s.now at × Fine self.old }
+        requires { (at ≤ length s.now) × FreeItem s.now at }
         ensures { (depth : ℕ) → ReadIs s.now an_item depth at self.old (step result self.new) }
     {
         let end = emp(s, at)?;
@@ -68,7 +68,7 @@ impl Draft {
 
     // The two terms of a list, behind its word, and its closing bracket.
     fn relation(&mut self, s: &[u8], at: usize, word: Atom) -> Result<usize, Refusal>
-        requires { (at ≤ length s.now) × Fine self.old }
+        requires { at ≤ length s.now }
         ensures { (depth : ℕ) → ReadIs s.now (waits (relates (atom_of word))) depth at self.old (step result self.new) }
     {
         let (first, x) = self.names.operand(s, at, false)?;
@@ -79,7 +79,7 @@ impl Draft {
     // An item inside that many lists.
     #[cycle(item_list_pair_single)]
     pub fn item(&mut self, s: &[u8], at: usize, depth: usize) -> Result<usize, Refusal>
-        requires { (at ≤ length s.now) × (depth ≤ deepest) × Fine self.old }
+        requires { (at ≤ length s.now) × (depth ≤ deepest) }
         ensures { ReadIs s.now an_item depth at self.old (step result self.new) }
     {
         let from = skip(s, at);
@@ -95,7 +95,7 @@ impl Draft {
     // A list inside that many others, behind its opening bracket.
     #[cycle(item_list_pair_single)]
     fn list(&mut self, s: &[u8], at: usize, depth: usize) -> Result<usize, Refusal>
-        requires { (at ≤ length s.now) × (depth < deepest) × Fine self.old }
+        requires { (at ≤ length s.now) × (depth < deepest) }
         ensures { ReadIs s.now head depth at self.old (step result self.new) }
     {
         let (end, said) = word(s, at)?;
@@ -109,7 +109,7 @@ impl Draft {
     // The only formula of a list, behind its word, and its closing bracket.
     #[cycle(item_list_pair_single)]
     fn single(&mut self, s: &[u8], at: usize, depth: usize) -> Result<usize, Refusal>
-        requires { (at ≤ length s.now) × (depth < deepest) × Fine self.old }
+        requires { (at ≤ length s.now) × (depth < deepest) }
         ensures { ReadIs s.now (waits denies) depth at self.old (step result self.new) }
     {
         let only = self.item(s, at, depth + 1)?;
@@ -119,7 +119,7 @@ impl Draft {
     // The two formulas of a list, behind its word, and its closing bracket.
     #[cycle(item_list_pair_single)]
     fn pair(&mut self, s: &[u8], at: usize, depth: usize, word: Join) -> Result<usize, Refusal>
-        requires { (at ≤ length s.now) × (depth < deepest) × Fine self.old }
+        requires { (at ≤ length s.now) × (depth < deepest) }
         ensures { ReadIs s.now (waits (joins (join_of word))) depth at self.old (step result self.new) }
     {
         let first = self.item(s, at, depth + 1)?;

@@ -3,7 +3,7 @@
 
 ghost use Rattle.std.specs.Prelude.{◌≡◌};
 ghost use Rattle.logic.specs.Numbers.{answer};
-ghost use Rattle.leaves.specs.Refusals.{refused, told};
+ghost use Rattle.leaves.specs.Refusals.{refused, outcome, told};
 
 use logic::Answer;
 
@@ -67,6 +67,16 @@ impl From<Refusal> for Answer {
             Refusal::ManyNodes(i) => answer_of(logic::MANY_NODES, i),
             Refusal::ManyNames(i) => answer_of(logic::MANY_NAMES, i),
         }
+    }
+}
+
+// The answer of a step that gives back nothing: number 0, or its refusal.
+pub fn done(step: Result<(), Refusal>) -> Answer
+    ensures { result ≡ outcome step }
+{
+    match step {
+        Ok(()) => answer_of(logic::YES, 0),
+        Err(refusal) => refusal.into(),
     }
 }
 

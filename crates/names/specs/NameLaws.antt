@@ -2,7 +2,7 @@
 use Rattle.std.specs.Prelude.{◌≡◌, ◌==◌, refl, Bool, true, false, not, cond, Option, None, Some, Ok, Err, eqb, ltb, length, set, take, position as place}
 use Rattle.std.specs.List.{position_or_len}
 use Rattle.std.proofs.lemmas.List.Sums.{prefix_len-le-length}
-use Rattle.std.proofs.Common.{sym, ◌∙◌, add-one, arith, length-set, length-take-le, take-suc-set}
+use Rattle.std.proofs.Common.{sym, ◌∙◌, add-one, arith, length-take-le, take-suc-set}
 use Rattle.std.proofs.Math.Path.{ap}
 use mathlib.Core.List.{List, [], ◌∷◌, ◌++◌, map}
 use Prim.Native.Nat.{ℕ, suc, ◌+◌, ◌≤◌, ◌<◌}
@@ -67,12 +67,16 @@ place_none ls w e = go (ltb (position_or_len (λ l. l == w) ls) (length ls)) ref
 
 -- ---- one more name
 
+-- all names fit their array: their type says so
+pub all_fine : (n : Names) → Fine n
+all_fine n = record { long = n.long; few = n.few }
+
 some_is : {k v : ℕ} → Some k ≡ Some v → v ≡ k
 some_is e = cc
 
-module _ (n : Names) (w i : ℕ) (f : Fine n) (p : i ≡ position (held n) (letters_of w)) where
+module _ (n : Names) (w i : ℕ) (p : i ≡ position (held n) (letters_of w)) where
   long : length (held n) ≡ n.count
-  long = names_long n.letters n.count w (omega (arith, f.long, f.few))
+  long = names_long n.letters n.count w (omega (arith, n.long, n.few))
 
   known_is : (c : Bool) → ltb i n.count ≡ c → known (held n) (letters_of w) ≡ c
   known_is c e = known_place (held n) (letters_of w) ∙ ap (λ (j : ℕ). ltb j (length (held n))) (sym p) ∙ ap (ltb i) long ∙ e
@@ -83,7 +87,7 @@ module _ (n : Names) (w i : ℕ) (f : Fine n) (p : i ≡ position (held n) (lett
       let k : known (held n) (letters_of w) ≡ true = known_is true (lt-ltb i n.count l) in
       record {
         over = λ e. absurd (cc);
-        fine = f;
+        fine = all_fine n;
         noted = λ v e. rw k;
         number = λ v e. some_is e ∙ add-one i ∙ ap suc p;
         under = λ v e q. false_true (sym q.0 ∙ k);
@@ -93,23 +97,23 @@ module _ (n : Names) (w i : ℕ) (f : Fine n) (p : i ≡ position (held n) (lett
   pub noted_over : n.count ≤ i → most ≤ n.count → NotedIs n (letters_of w) None n
   noted_over l m =
       record {
-        over = λ e. (known_is false (le-ltb i n.count l), omega (arith, long, f.few));
-        fine = f;
+        over = λ e. (known_is false (le-ltb i n.count l), omega (arith, long, n.few));
+        fine = all_fine n;
         noted = λ v e. absurd (cc);
         number = λ v e. absurd (cc);
         under = λ v e. absurd (cc);
       }
 
   -- it is the next
-  pub noted_new : n.count ≤ i → n.count < most → NotedIs n (letters_of w) (Some (n.count + 1)) (names (set n.letters n.count w) (n.count + 1))
-  noted_new l m =
+  pub noted_new : n.count ≤ i → n.count < most → (h : length (set n.letters n.count w) ≡ most) → (g : n.count + 1 ≤ most) → NotedIs n (letters_of w) (Some (n.count + 1)) (names (set n.letters n.count w) (n.count + 1) h g)
+  noted_new l m h g =
       let k : known (held n) (letters_of w) ≡ false = known_is false (le-ltb i n.count l) in
       let grown : names_in (set n.letters n.count w) (n.count + 1) ≡ held n ++ (letters_of w ∷ []) =
       ap (names_in (set n.letters n.count w)) (add-one n.count)
-      ∙ ap (map letters_of) (take-suc-set n.letters n.count w (omega (arith, f.long, m))) ∙ map_last (take n.count n.letters) in
+      ∙ ap (map letters_of) (take-suc-set n.letters n.count w (omega (arith, n.long, m))) ∙ map_last (take n.count n.letters) in
       record {
         over = λ e. absurd (cc);
-        fine = record { long = length-set n.letters n.count w ∙ f.long; few = omega (arith, m) };
+        fine = record { long = h; few = g };
         noted = λ v e. grown ∙ rw k;
         number = λ v e. some_is e ∙ add-one n.count ∙ ap suc (sym long ∙ sym (position_new (held n) (letters_of w) k) ∙ ap (λ (ns : List (List ℕ)). position ns (letters_of w)) (sym grown));
         under = λ v e q. omega (arith, q.1, long, m);
@@ -132,16 +136,16 @@ module _ (s : List ℕ) (last : Bool) (i j : ℕ) (n : Names) (k : Skipped s i j
       }
 
   -- `sep.nil`
-  pub operand_nil : (e : ℕ) → TermIs s last j (Ok (e, None)) → Fine n → OperandIs s last i n (taken (Ok (e, 0))) n
+  pub operand_nil : (e : ℕ) → TermIs s last j (Ok (e, None)) → OperandIs s last i n (taken (Ok (e, 0))) n
   unfolding emits
-  operand_nil e q f =
+  operand_nil e q =
       record {
         took = λ _.
             record {
               term = nil_term;
               from = omega (arith, k.from, q.0);
               inside = q.1;
-              fine = f;
+              fine = all_fine n;
               noted = refl;
               number = refl;
               goes = λ d t h σ. ap (outcome (held n) d) (skip_arg s t σ k.blanks ∙ q.2 t h σ);

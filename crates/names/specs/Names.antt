@@ -15,8 +15,8 @@ use Rattle.terms.specs.Terms.{last_of}
 use Rattle.names.specs.declared.Names.{Names}
 
 -- the letters of each name, and how many names there are
-abbrev pub names : List ℕ → ℕ → Names
-names l k = record { letters = l; count = k }
+abbrev pub names : (l : List ℕ) (k : ℕ) → length l ≡ most → k ≤ most → Names
+names l k h f = record { letters = l; count = k; long = h; few = f }
 
 -- the first k of the names that the numbers hold
 abbrev pub names_in : List ℕ → ℕ → List (List ℕ)

@@ -2,8 +2,8 @@
 #![tactic(auto)]
 
 ghost use Rattle.std.specs.Prelude.{◌≡◌, ◌==◌, ◌≤◌, length, position, take};
+ghost use Rattle.logic.specs.Book.{most};
 ghost use Rattle.terms.specs.Letters.{letters_of};
-ghost use Rattle.names.specs.Names.{Fine, NotedIs, taken, OperandIs};
 
 use leaves::Refusal;
 use logic::MOST;
@@ -15,12 +15,15 @@ use words::skip;
 pub struct Names {
     pub letters: [u64; MOST],
     pub count: usize,
+    pub ghost long: { length letters ≡ most },
+    pub ghost few: { count ≤ most },
 }
 
 impl Names {
+    ghost use Rattle.names.specs.Names.{NotedIs, taken, OperandIs};
+
     // Where w stands among the names.
     fn place_of(&self, w: u64) -> Option<usize>
-        requires { Fine self.now }
         ensures { result ≡ position (λ l. l == w) (take self.now.count self.now.letters) }
     {
         self.letters[..self.count].iter().position(|l| *l == w)
@@ -28,7 +31,6 @@ impl Names {
 
     // The number of the name w, which is noted where it is new. None where it is one name too many.
     fn numbered(&mut self, w: u64) -> Option<u8>
-        requires { Fine self.old }
         ensures { NotedIs self.old (letters_of w) result self.new }
     {
         if let Some(i) = self.place_of(w) {
@@ -44,7 +46,7 @@ impl Names {
 
     // Where the term from `at` on ends, and its number; `last`: it is its list's last.
     pub fn operand(&mut self, s: &[u8], at: usize, last: bool) -> Result<(usize, u8), Refusal>
-        requires { (at ≤ length s.now) × Fine self.old }
+        requires { at ≤ length s.now }
         ensures { OperandIs s.now last at self.old (taken result) self.new }
     {
         let from = skip(s, at);

@@ -32,18 +32,18 @@ fn is_letter(b: u8) -> bool
 fn is_word(w: u64) -> bool
     ensures { result ≡ reserved (letters_of w) }
 {
-    match w {
-        6385252 => true,
-        28530 => true,
-        7562608 => true,
-        2002873956 => true,
-        7237492 => true,
-        61 => true,
-        7235441220169655156 => true,
-        7369839 => true,
-        27763 => true,
-        _ => false,
-    }
+    matches!(
+        w,
+        6385252
+            | 28530
+            | 7562608
+            | 2002873956
+            | 7237492
+            | 61
+            | 7235441220169655156
+            | 7369839
+            | 27763
+    )
 }
 
 // Whether some name begins with these letters.

@@ -7,13 +7,13 @@ use Rattle.logic.specs.declared.Profile.TheVariants.{Strong}
 use Rattle.logic.specs.Formula.{Form}
 use Rattle.logic.specs.Formula.Form.{conj, disj, but, neg, sep, sept}
 use Rattle.logic.specs.Table.{atom_of, join_of, join_from5, tree, op_of, operand_of}
-use Rattle.logic.specs.Book.{nodes, Known}
+use Rattle.logic.specs.Book.{nodes, Known, KnownTable}
 use Rattle.rows.specs.declared.Next.{Next}
 use Rattle.rows.specs.Row.{Row, bytes_of}
 use Rattle.rows.specs.Row.Row.{AND, OR, NOT}
 use Rattle.rows.specs.Table.{arrays_in, sets_in, moved, two_sets, array_and_sets, after, apart_row_count, sep_rows, sept_rows, rows_in, rows_of}
 use Rattle.rows.proofs.TableLaws.{rows_some, rows_long, atom_long, atom_rows, trees_long}
-use Rattle.logic.proofs.KnownLaws.{atom_tree, join_tree}
+use Rattle.logic.proofs.KnownLaws.{operator_some, atom_tree, join_tree}
 use Rattle.rowbytes.specs.Written.{put, Puts, Space}
 use Rattle.rowbytes.specs.WrittenLaws.{row_after, puts_as, rows_rows, space_after, space_less}
 use Rattle.ownrows.specs.Encoded.{Room, Encoded}
@@ -169,3 +169,15 @@ module _ (π : Profile) (v : ℕ) (f : List ℕ) (w : Known v f) (k x y n : ℕ)
 
     pub join_encoded : 5 ≤ op_of f k → Encoded π n (join_of (op_of f k) (tree f x) (tree f y)) A S s t o now → Encoded π n (tree f k) A S s t o now
     join_encoded l q = rw (join_tree v f w k x y h ex ey l) q
+
+-- ---- a connective, as code is given it
+
+module _ {π : Profile} {f : List ℕ} {k n : ℕ} {s : Next} {o : List ℕ} (z : (k < nodes f) × (5 ≤ op_of f k) × KnownTable f × Room π n (tree f k) s o) where
+  pub connective : op_of f k ≤ 10
+  connective = (operator_some z.2.0 f z.2.1 k 0 0 z.0).1
+
+  pub own_room : Room π n (join_of (op_of f k) (tree f (operand_of f k 0)) (tree f (operand_of f k 1))) s o
+  own_room = room_join π z.2.0 f z.2.1 k (operand_of f k 0) (operand_of f k 1) n z.0 refl refl s o z.1 z.3
+
+  pub own_encoded : (A S : ℕ) {t : Next} {now : List ℕ} → Encoded π n (join_of (op_of f k) (tree f (operand_of f k 0)) (tree f (operand_of f k 1))) A S s t o now → Encoded π n (tree f k) A S s t o now
+  own_encoded A S {t} {now} q = join_encoded π z.2.0 f z.2.1 k (operand_of f k 0) (operand_of f k 1) n z.0 refl refl A S s t o now z.1 q

@@ -111,6 +111,10 @@ module _ (s : List ℕ) where
 
   -- ---- edges
 
+  -- bytes 40 and 41 are the brackets
+  pub edge_bracket : (i : ℕ) → i < length s → 40 ≤ get_or s i 0 → get_or s i 0 < 42 → Is true (Edge s i)
+  edge_bracket i l f g = record { to = λ e. ⊎_elim (λ q. at_open (l, sym q)) (λ q. at_close (l, omega arith)) (eq-or-lt_of_le f); from = λ e. refl }
+
   pub edge_else : (i : ℕ) (t : Bool) → i < length s → ¬ (get_or s i 0 ≡ 40) → ¬ (get_or s i 0 ≡ 41) → t ≡ blank (get_or s i 0) → Is t (Edge s i)
   edge_else i t l f g e = record { to = λ h. at_blank (sym e ∙ h) (l, refl); from = λ h. e ∙ from i h l f g }
     where

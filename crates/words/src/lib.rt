@@ -85,7 +85,7 @@ fn all_blank(s: &[u8], at: usize) -> bool
     is_blank(s[at + (STRETCH - 1)]) && inks(s, at) == 0
 }
 
-// Past the stretches that are all blanks.
+// Past the stretches that are all blanks. A step is a stretch, and the first that is not all blanks ends it, so this is no loop over a range.
 fn far(s: &[u8], at: usize) -> usize
     requires { at ≤ length s.now }
     ensures { (at ≤ result) × (result ≤ length s.now) × OverBlanks s.now at result }
@@ -119,8 +119,7 @@ pub fn edge(s: &[u8], at: usize) -> bool
         return true;
     }
     match s[at] {
-        b'(' => true,
-        b')' => true,
+        b'(' | b')' => true,
         b => is_blank(b),
     }
 }
@@ -158,14 +157,13 @@ pub fn spelled(s: &[u8], at: usize, letters: &[u8]) -> Result<usize, BadText>
     requires { at ≤ length s.now }
     ensures { SpelledIs s.now letters.now at result }
 {
-    let mut e = at;
-    for c in letters {
+    for (i, c) in letters.iter().enumerate() {
+        let e = at + i;
         if s.len() <= e || s[e] != *c {
             return Err(BadText { at: e });
         }
-        e += 1;
     }
-    Ok(e)
+    Ok(at + letters.len())
 }
 
 // The list's word that begins with b: their first letters differ.

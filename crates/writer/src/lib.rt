@@ -11,7 +11,7 @@ ghost use Rattle.ownwords.specs.OwnWords.{text};
 ghost use Rattle.writer.specs.NamedTable.{NamedTable};
 
 use book::open;
-use leaves::{Refusal, answer_of};
+use leaves::{Refusal, done};
 use logic::Answer;
 use ownwords::{before, behind, between, own_bytes, put_atom};
 use put::Pen;
@@ -68,8 +68,5 @@ fn book_to_text(book: &[u8], out: &mut [u8]) -> Result<(), Refusal>
 pub fn export(book: &[u8], out: &mut [u8]) -> Answer
     ensures { Exports book.now out.old result out.new }
 {
-    match book_to_text(book, out) {
-        Ok(()) => answer_of(logic::YES, 0),
-        Err(refusal) => refusal.into(),
-    }
+    done(book_to_text(book, out))
 }

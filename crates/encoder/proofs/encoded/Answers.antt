@@ -28,11 +28,11 @@ returns-then-not-encodable c =
 pub overflow_cast-n : goal.overflow_cast-n
 overflow_cast-n c = omega (arith, locs_low c.args.book.now _ _ _ _ c.in_ok-problem.ensures.bodies)
 
+pub invariant_of-source : goal.invariant_of-source
+invariant_of-source c = record { few = omega (arith, locs_low c.args.book.now _ _ _ _ c.in_ok-problem.ensures.bodies) }
+
 pub row_count-rows-requires : goal.row_count-rows-requires
-row_count-rows-requires c =
-    let s = c.args.book.now in
-    let w = c.in_ok-problem.ensures.bodies in
-    ((c.in_ok-problem.problem.v, known s _ _ _ _ w), omega (arith, locs_low s _ _ _ _ w))
+row_count-rows-requires c = (c.in_ok-problem.problem.v, known c.args.book.now _ _ _ _ c.in_ok-problem.ensures.bodies)
 
 pub returns-then-out-from : goal.returns-then-out-from
 returns-then-out-from c =

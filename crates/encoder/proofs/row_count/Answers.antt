@@ -21,7 +21,7 @@ loop-k-preserved c =
 pub returns : goal.returns
 returns c =
     let s = c.args.source.now in
-    let z = c.requires.0 in
+    let z = c.requires in
     let l = c.loop-k in
     let e : l.k ≡ length s.formula.now / 3 = omega arith in
     rows_are s.profile z.0 s.formula.now z.1 s.n l.r (l.invariant.1 ∙ ap (λ (k : ℕ). sum k (λ j. own_row_count s.profile s.n (op_of s.formula.now j))) e)

@@ -10,7 +10,7 @@ pub put_table-requires : goal.put_table-requires
 put_table-requires c =
     let a = c.args in
     let z = c.requires in
-    (z.known, z.locs, room_behind a.source.now.profile a.source.now.formula.now a.source.now.n a.rows a.out.now z _ (omega arith))
+    (z.known, room_behind a.source.now.profile a.source.now.formula.now a.source.now.n a.rows a.out.now z _ (omega arith))
 
 pub returns : goal.returns
 returns c =

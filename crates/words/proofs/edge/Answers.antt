@@ -3,18 +3,15 @@ use mathlib.Core.Path.{refl, subst}
 use Prim.Native.Nat.{ℕ}
 use native.Mathlib.Omega.{arith}
 use Rattle.grammar.specs.Grammar.{Edge}
-use Rattle.grammar.specs.Grammar.Edge.{at_end, at_open, at_close}
-use Rattle.words.specs.WordLaws.{edge_else}
+use Rattle.grammar.specs.Grammar.Edge.{at_end}
+use Rattle.words.specs.WordLaws.{edge_bracket, edge_else}
 use Rattle.words.proofs.edge.Goals as goal
 
 pub returns-then-s-at : goal.returns-then-s-at
 returns-then-s-at c = let a = c.args in record { to = λ e. subst (λ (i : ℕ). Edge a.s.now i) (omega arith) at_end; from = λ e. refl }
 
 pub returns-in-40 : goal.returns-in-40
-returns-in-40 c = record { to = λ e. at_open (c.if-s-at.false, c.in-40.is); from = λ e. refl }
-
-pub returns-in-41 : goal.returns-in-41
-returns-in-41 c = record { to = λ e. at_close (c.if-s-at.false, c.in-41.is); from = λ e. refl }
+returns-in-40 c = let a = c.args in edge_bracket a.s.now a.at c.if-s-at.false (omega arith) (omega arith)
 
 pub returns-in_default : goal.returns-in_default
 returns-in_default c =

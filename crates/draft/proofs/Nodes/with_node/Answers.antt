@@ -3,4 +3,4 @@ use Rattle.draft.specs.DraftLaws.{one_more_node}
 use Rattle.draft.proofs.Nodes.with_node.Goals as goal
 
 pub returns : goal.returns
-returns c = let a = c.args in one_more_node a.self.now a.op a.a a.b c.requires.0 c.requires.1
+returns c = let a = c.args in one_more_node a.self.now a.op a.a a.b c.requires _ _

@@ -52,7 +52,7 @@ pub pair-joined-requires : goal.pair-joined-requires
 pair-joined-requires t c =
     let q = c.in_ok-first.ensures.read refl in
     let u = c.in_ok-second.ensures.read refl in
-    (u.fine.ready, omega (arith, more_nodes _ _ _ _ _ _ q), more_nodes _ _ _ _ _ _ u)
+    (omega (arith, more_nodes _ _ _ _ _ _ q), more_nodes _ _ _ _ _ _ u)
 
 pub pair-returns : goal.pair-returns
 pair-returns t c =
@@ -64,7 +64,7 @@ single-returns-in_err-only t c =
     rw (p.1, p.2) (first_refused _ _ _ _ only_one c.in_err-only.ensures (never_zero c.in_err-only.field-0.0))
 
 pub single-denied-requires : goal.single-denied-requires
-single-denied-requires t c = let q = c.in_ok-only.ensures.read refl in (q.fine.ready, omega (arith, more_nodes _ _ _ _ _ _ q))
+single-denied-requires t c = let q = c.in_ok-only.ensures.read refl in omega (arith, more_nodes _ _ _ _ _ _ q)
 
 pub single-returns : goal.single-returns
 single-returns t c = single_read _ _ _ _ _ (c.in_ok-only.ensures.read refl) c.denied.ensures _ c.closed.ensures

@@ -25,4 +25,4 @@ returns-then-not-edge c =
 pub returns : goal.returns
 returns c =
     let f : c.edge.result ≡ true = c.if-not-edge.false in
-    λ depth. emp_read _ _ _ _ c.in_ok-end.end c.in_ok-end.ensures c.one_node.ensures (finished_fits c.in_ok-finished.ensures) (c.edge.ensures.to f) c.requires.2.names
+    λ depth. emp_read _ _ _ _ c.in_ok-end.end c.in_ok-end.ensures c.one_node.ensures (finished_fits c.in_ok-finished.ensures) (c.edge.ensures.to f)

@@ -19,7 +19,7 @@ returns-in_default c =
     let a = c.args in
     let k = c.skip-from in
     let e = c.in_ok-end.end in
-    operand_nil a.s.now a.last a.at k.result a.self.now k.ensures e (subst (λ (x : Option ℕ). TermIs a.s.now a.last k.result (Ok (e, x))) c.in_default.is c.in_ok-end.ensures) c.requires.1
+    operand_nil a.s.now a.last a.at k.result a.self.now k.ensures e (subst (λ (x : Option ℕ). TermIs a.s.now a.last k.result (Ok (e, x))) c.in_default.is c.in_ok-end.ensures)
 
 pub returns-in_default-numbered : goal.returns-in_default-numbered
 returns-in_default-numbered c =
