@@ -71,6 +71,14 @@ impl Judge<'_> {
         }
     }
 
+    // Whether the heap w fits node k, as a model's heap does: the node holds, and no path is too long.
+    pub fn fits(&self, f: &Table, k: usize, w: u64) -> bool
+        requires { Ready f.now self.now.setting k × Heap self.now.setting.locs (cells w) }
+        ensures { Is result (Fits self.now.setting.profile self.now.setting.vars self.now.setting.locs self.now.setting.path (tree f.now k) (stack_of self.now.setting) (cells w)) }
+    {
+        self.node_holds(f, k, w) && is_short(self.setting.locs, self.setting.path, w)
+    }
+
     // The same for a node that is a child. With two callers `join` is compiled apart, so that an atom saves no registers: all
     // formulas are judged a tenth to a third faster. A negation is judged here and not there, for the same reason.
     #[cycle(join)]
@@ -223,7 +231,7 @@ fn pairs_for(locs: u64) -> &'static [u16]
     all()
 }
 
-// Whether the heap w fits node k of the table f, as a model's heap does: the node holds, and no path is too long.
+// The same as the judge's, with a table of pairs of its own.
 pub fn fits(f: &Table, k: usize, b: &Setting, w: u64) -> bool
     requires { Ready f.now b.now k × Heap b.now.locs (cells w) }
     ensures { Is result (Fits b.now.profile b.now.vars b.now.locs b.now.path (tree f.now k) (stack_of b.now) (cells w)) }
@@ -232,5 +240,5 @@ pub fn fits(f: &Table, k: usize, b: &Setting, w: u64) -> bool
         setting: *b,
         pairs: pairs_for(b.locs),
     };
-    judge.node_holds(f, k, w) && is_short(b.locs, b.path, w)
+    judge.fits(f, k, w)
 }

@@ -3,16 +3,13 @@
 #![tactic(auto)]
 
 ghost use Rattle.std.specs.Prelude.{◌≡◌, suc, ◌+◌, ◌≤◌, ◌<◌, IfSome};
-ghost use Rattle.logic.specs.Heap.{Heap};
 ghost use Rattle.logic.specs.Table.{Sound, tree};
-ghost use Rattle.logic.specs.Reflect.{Is};
-ghost use Rattle.logic.specs.Model.{Fits};
 ghost use Rattle.logic.specs.Candidates.{total};
 ghost use Rattle.logic.specs.Search.{CandidateFits};
-ghost use Rattle.cells.specs.Cells.{most, cells};
+ghost use Rattle.cells.specs.Cells.{most};
 ghost use Rattle.pairs.specs.Pairs.{Lists};
 ghost use Rattle.judge.specs.Listing.{lists_prop};
-ghost use Rattle.judge.specs.Setting.{room, stack_of, Ready};
+ghost use Rattle.judge.specs.Setting.{room};
 ghost use Rattle.candidates.specs.Counter.{WithinBounds, number, Passes};
 ghost use Rattle.skips.specs.Blocks.{weight, after};
 ghost use Rattle.sweep.specs.Sweep.{low_of, Given, Facing};
@@ -23,7 +20,6 @@ use cells::barred;
 use judge::{Judge, Setting};
 use levels::out_of_order_from;
 use logic::{Profile, Table};
-use paths::is_short;
 use rootfacts::{cap_at, is_hopeless, root_facts};
 
 // A candidate that fits, and its number.
@@ -31,15 +27,6 @@ use rootfacts::{cap_at, is_hopeless, root_facts};
 pub struct Found {
     pub number: u64,
     pub at: Candidate,
-}
-
-// Whether the heap w fits node k of the table f. The two tests of `judge::fits` stand here themselves, since the judge that is lent has a table of
-// pairs already.
-fn fits(judge: &Judge, f: &Table, k: usize, w: u64) -> bool
-    requires { Ready f.now judge.now.setting k × Heap judge.now.setting.locs (cells w) }
-    ensures { Is result (Fits judge.now.setting.profile judge.now.setting.vars judge.now.setting.locs judge.now.setting.path (tree f.now k) (stack_of judge.now.setting) (cells w)) }
-{
-    judge.node_holds(f, k, w) && is_short(judge.setting.locs, judge.setting.path, w)
 }
 
 // The first candidate after the block at level j, or after c itself.
@@ -91,7 +78,7 @@ fn heaps(
     let mut i = from;
     while i < to {
         let j = if looking { known.level(c.heap) } else { None };
-        if j.is_none() && fits(judge, f, k, c.heap) {
+        if j.is_none() && judge.fits(f, k, c.heap) {
             return Some(Found { number: i, at: c });
         }
         c = go_on(c, j);
