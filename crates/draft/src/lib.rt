@@ -14,7 +14,7 @@ use logic::{NODES, Table};
 use words::{Atom, Join};
 
 // The nodes so far, and how many they are. The table has room for the most.
-#[derive(Drop)]
+#[derive(Clone, Copy)]
 pub struct Nodes {
     pub table: Table,
     pub count: usize,

@@ -10,7 +10,7 @@ use std::{fmt, io};
 
 // Lines printed; those of them that are as stated, with both judges agreeing where both can judge; and those that the second
 // judge cannot judge.
-#[derive(Default, Drop)]
+#[derive(Clone, Copy, Default)]
 pub struct Tally {
     lines: u64,
     right: u64,
@@ -89,8 +89,8 @@ impl Tally {
     pub fn run(&mut self, rt: &impl Print, line: &str) -> io::Result<()> {
         print!(rt; "{line}")?;
         let mut fields = line.split('|').skip(1);
-        let bytes = notation::bytes(fields.next().unwrap_or(""));
-        let page = notation::book(bytes.as_slice(), fields.next().unwrap_or(""));
+        let bytes = notation::bytes(fields.next().unwrap_or("").as_bytes());
+        let page = notation::book(bytes.as_slice(), fields.next().unwrap_or("").as_bytes());
         let statement = fields.next().unwrap_or("");
         let assignment = fields.next();
         let &[variables, locations, path] = bytes.as_slice() else {
@@ -105,7 +105,7 @@ impl Tally {
         };
         let book = page.as_slice();
         let stated = Stated::read(statement);
-        let model = notation::bytes(statement);
+        let model = notation::bytes(statement.as_bytes());
         let swept = Swept::over(book, bounds, model.as_slice());
         let right = match (stated, assignment) {
             (Stated::Found | Stated::None, _) => is_searched(rt, book, stated)?,
@@ -162,7 +162,7 @@ fn is_judged(book: &[u8], model: &[u8], stated: Stated, swept: Option<Swept>) ->
 
 // Whether the assignment satisfies the book's encoding, and the model that is stated for it fits.
 fn is_assigned(book: &[u8], digits: &str, swept: Option<Swept>) -> bool {
-    let values = notation::bytes(digits);
+    let values = notation::bytes(digits.as_bytes());
     let answer = assign::assign(Profile::Strong, book, values.as_slice());
     answer.number == logic::YES && swept.is_some_and(|s| s.fits)
 }

@@ -13,7 +13,7 @@ const P1_ENCODING: [u8; 64] = [
 ];
 
 pub fn bytes_of_p1(rt: &impl Print, tally: &mut Tally) -> io::Result<()> {
-    let book = notation::book(&[1, 1, 1], "x>x");
+    let book = notation::book(&[1, 1, 1], b"x>x");
     tally.compare(rt, "01 P1, the book", book.as_slice(), &P1_BOOK)?;
     let mut rows = [0u8; 64];
     encoder::encode(Profile::Strong, &P1_BOOK, &mut rows);

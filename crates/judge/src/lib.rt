@@ -141,10 +141,10 @@ impl Judge<'_> {
         loop {
             let m = part_at(self.pairs, i);
             if self.serves(f, k, w, t, m) {
-                return Some(m);
+                break Some(m);
             }
             if m == a {
-                return None;
+                break None;
             }
             i += 1;
         }

@@ -11,7 +11,7 @@ use terms::term;
 use words::skip;
 
 // The names so far: the letters of each in base 256, in the order in which they first appeared. Those behind the last name are none.
-#[derive(Drop)]
+#[derive(Clone, Copy)]
 pub struct Names {
     pub letters: [u64; MOST],
     pub count: usize,

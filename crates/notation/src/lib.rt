@@ -93,7 +93,7 @@ struct Draft {
 }
 
 impl Draft {
-    fn of(formula: &str) -> Draft {
+    fn of(formula: &[u8]) -> Draft {
         let mut draft = Draft {
             nodes: Items::new([0; 3]),
             roots: Items::new(0),
@@ -101,8 +101,8 @@ impl Draft {
             left: 0,
             relation: None,
         };
-        for c in formula.bytes() {
-            draft.take(c);
+        for c in formula {
+            draft.take(*c);
         }
         draft
     }
@@ -203,7 +203,7 @@ impl Draft {
 pub type Book = Items<u8, 256>;
 
 // The book with these bounds v n p and this formula.
-pub fn book(bounds: &[u8], formula: &str) -> Book {
+pub fn book(bounds: &[u8], formula: &[u8]) -> Book {
     let nodes = Draft::of(formula).nodes;
     let mut book = Book::new(0);
     book.extend(&[2, 1, 11, 0, 3, 0, 2, 14, 0, (3 * nodes.count) as u8, 0]);
@@ -218,12 +218,12 @@ pub fn book(bounds: &[u8], formula: &str) -> Book {
 pub type Bytes = Items<u8, MODEL>;
 
 // The bytes that these digits are.
-pub fn bytes(digits: &str) -> Bytes {
+pub fn bytes(digits: &[u8]) -> Bytes {
     let mut bytes = Bytes::new(0);
-    for c in digits.bytes() {
-        match c {
+    for c in digits {
+        match *c {
             b'-' => bytes.push(255),
-            b'0'..=b'9' => bytes.push(c - b'0'),
+            b'0'..=b'9' => bytes.push(*c - b'0'),
             _ => {}
         }
     }

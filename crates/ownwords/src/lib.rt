@@ -53,6 +53,53 @@ pub fn behind(op: u8) -> &'static [u8]
     }
 }
 
+// Each word is copied by a call of its own, so that the compiler knows how long it is: with one call for all of an operator's words a
+// text takes a third to two thirds longer.
+pub fn put_before(pen: &mut Pen, op: u8)
+    requires { (1 ≤ op) × (op ≤ 10) × Space pen.old (before op) }
+    ensures { Writes pen.old (before op) pen.new }
+{
+    match op {
+        1 => pen.put_word(before(1)),
+        2 => pen.put_word(before(2)),
+        3 => pen.put_word(before(3)),
+        4 => pen.put_word(before(4)),
+        5 => pen.put_word(before(5)),
+        6 => pen.put_word(before(6)),
+        7 => pen.put_word(before(7)),
+        8 => pen.put_word(before(8)),
+        9 => pen.put_word(before(9)),
+        _ => pen.put_word(before(10)),
+    }
+}
+
+#[inline(always)]
+pub fn put_between(pen: &mut Pen, op: u8)
+    requires { (1 ≤ op) × (op ≤ 10) × Space pen.old (between op) }
+    ensures { Writes pen.old (between op) pen.new }
+{
+    match op {
+        7 => pen.put_word(between(7)),
+        8 => pen.put_word(between(8)),
+        10 => pen.put_word(between(10)),
+        _ => pen.put_word(between(1)),
+    }
+}
+
+#[inline(always)]
+pub fn put_behind(pen: &mut Pen, op: u8)
+    requires { (1 ≤ op) × (op ≤ 10) × Space pen.old (behind op) }
+    ensures { Writes pen.old (behind op) pen.new }
+{
+    match op {
+        1 => pen.put_word(behind(1)),
+        2 => pen.put_word(behind(2)),
+        7 => pen.put_word(behind(7)),
+        10 => pen.put_word(behind(10)),
+        _ => pen.put_word(behind(3)),
+    }
+}
+
 // A variable by its name, or nil.
 fn put_term(pen: &mut Pen, x: u8)
     requires { (x ≤ most) × Space pen.old (term x) }
@@ -71,11 +118,11 @@ pub fn put_atom(pen: &mut Pen, op: u8, x: u8, y: u8)
     requires { (1 ≤ op) × (op ≤ 4) × (x ≤ most) × (y ≤ most) × Space pen.old (around op (term x) (term y)) }
     ensures { Writes pen.old (around op (term x) (term y)) pen.new }
 {
-    pen.put_word(before(op));
+    put_before(pen, op);
     put_term(pen, x);
-    pen.put_word(between(op));
+    put_between(pen, op);
     put_term(pen, y);
-    pen.put_word(behind(op));
+    put_behind(pen, op);
 }
 
 // How many bytes a variable has.
@@ -86,6 +133,7 @@ fn term_bytes(x: u8) -> usize
 }
 
 // How many bytes an operator has before, between and behind its operands.
+#[inline(always)]
 fn word_bytes(op: u8) -> usize
     requires { (1 ≤ op) × (op ≤ 10) }
     ensures { (result ≡ word_bytes op) × (result ≤ 26) }
@@ -93,12 +141,31 @@ fn word_bytes(op: u8) -> usize
     before(op).len() + between(op).len() + behind(op).len()
 }
 
+// The same, each operator by itself: so that the compiler knows the sum, and a book's text is not measured word by word.
+fn known_bytes(op: u8) -> usize
+    requires { (1 ≤ op) × (op ≤ 10) }
+    ensures { (result ≡ word_bytes op) × (result ≤ 26) }
+{
+    match op {
+        1 => word_bytes(1),
+        2 => word_bytes(2),
+        3 => word_bytes(3),
+        4 => word_bytes(4),
+        5 => word_bytes(5),
+        6 => word_bytes(6),
+        7 => word_bytes(7),
+        8 => word_bytes(8),
+        9 => word_bytes(9),
+        _ => word_bytes(10),
+    }
+}
+
 // How many bytes a node has, those of its children left out.
 pub fn own_bytes(op: u8, x: u8, y: u8) -> usize
     requires { (1 ≤ op) × (op ≤ 10) }
     ensures { (result ≡ own_byte_count op x y) × (result ≤ 40) }
 {
-    let words = word_bytes(op);
+    let words = known_bytes(op);
     if op > 4 {
         return words;
     }

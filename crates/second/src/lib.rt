@@ -105,13 +105,16 @@ struct Digits {
 }
 
 impl Digits {
-    // What is left above the k lowest digits.
+    // What is left above the k lowest digits, of which there are three at the most. Each case stands by itself, as a loop would take
+    // three times as long.
     fn above(self, k: u8) -> u8 {
-        let mut rest = self.number;
-        for _ in 0..k {
-            rest /= self.base;
+        match k {
+            0 => self.number,
+            1 => self.number / self.base,
+            2 => self.number / self.base / self.base,
+            3 => self.number / self.base / self.base / self.base,
+            _ => 0,
         }
-        rest
     }
 
     // Digit i, the lowest being digit 1. Nil has no digit: it is at location 0 and unallocated.
@@ -123,6 +126,14 @@ impl Digits {
     }
 }
 
+// What is left of x above its k lowest digits in that base.
+pub fn above(x: u8, base: u8, k: u8) -> u8 {
+    if base == 0 {
+        return 0;
+    }
+    Digits { number: x, base }.above(k)
+}
+
 // The set that has location l alone: bit l.
 fn bit(l: u8) -> u8 {
     match l {
@@ -132,7 +143,7 @@ fn bit(l: u8) -> u8 {
 }
 
 // The base of a stack's number, n + 1.
-fn stack_base(n: u8) -> u8
+pub fn stack_base(n: u8) -> u8
     ensures { (0 < result) × (result ≤ 4) }
 {
     n.min(LOCATIONS) + 1
@@ -160,7 +171,7 @@ impl Heap {
     // The allocated locations.
     fn allocated(self) -> u8 {
         let mut all = 0;
-        for l in 1..=LOCATIONS {
+        for l in 1..LOCATIONS + 1 {
             if self.value(l).is_some() {
                 all |= bit(l);
             }
@@ -171,7 +182,7 @@ impl Heap {
     // The allocated locations with all values.
     fn locations(self) -> u8 {
         let mut all = self.allocated();
-        for l in 1..=LOCATIONS {
+        for l in 1..LOCATIONS + 1 {
             if let Some(y) = self.value(l) {
                 all |= bit(y);
             }
@@ -253,24 +264,31 @@ impl World {
     // The numbers of stacks are below it.
     pub const STACKS: u8 = 64;
 
-    // The world of the stack with this number, where it is one within these bounds: it has no digit beyond the variables.
-    pub fn new(bounds: Bounds, number: u8) -> Option<World> {
+    // The world of the stack with this number. A variable past the last is at nil, which is named anyway.
+    pub fn of(bounds: Bounds, number: u8) -> World {
         let stack = Digits {
             number,
             base: stack_base(bounds.locations),
         };
-        if !bounds.can_judge() || stack.above(bounds.variables) != 0 {
-            return None;
-        }
         let mut named = bit(0);
-        for x in 1..=bounds.variables {
+        for x in 1..=VARIABLES {
             named |= bit(stack.digit(x));
         }
-        Some(World {
+        World {
             bounds,
             stack,
             named,
-        })
+        }
+    }
+
+    // The same where the stack is one within these bounds: it has no digit beyond the variables.
+    pub fn new(bounds: Bounds, number: u8) -> Option<World> {
+        let world = World::of(bounds, number);
+        if bounds.can_judge() && world.stack.above(bounds.variables) == 0 {
+            Some(world)
+        } else {
+            None
+        }
     }
 
     // The location of the variable x.
@@ -299,13 +317,16 @@ impl World {
     }
 
     fn are_strongly_disjoint(self, g: Heap, h: Heap) -> bool {
+        if g.allocated() & h.allocated() != 0 {
+            return false;
+        }
         let shared = g.locations() & h.locations();
-        g.allocated() & h.allocated() == 0 && shared & self.named == shared
+        shared & self.named == shared
     }
 }
 
 // The sets of all nodes of a formula in one world: whether each heap fits each node, the root being the last.
-#[derive(Drop)]
+#[derive(Clone, Copy)]
 pub struct Sets {
     world: World,
     root: usize,
@@ -393,9 +414,14 @@ impl Sets {
         }
     }
 
-    // Whether the heap h, as a model's, fits the root: it is in the root's set, and no path is too long.
+    // Whether the heap h, as a model's, fits node k: it is in the node's set, and no path is too long.
+    pub fn node_fits(&self, k: usize, h: Heap) -> bool {
+        self.has(k, h.number()) && h.is_short(self.world.bounds.path)
+    }
+
+    // The same for the root.
     pub fn fits(&self, h: Heap) -> bool {
-        self.has(self.root, h.number()) && h.is_short(self.world.bounds.path)
+        self.node_fits(self.root, h)
     }
 }
 

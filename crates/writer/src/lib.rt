@@ -13,7 +13,7 @@ ghost use Rattle.writer.specs.NamedTable.{NamedTable};
 use book::open;
 use leaves::{Refusal, done};
 use logic::Answer;
-use ownwords::{before, behind, between, own_bytes, put_atom};
+use ownwords::{own_bytes, put_atom, put_before, put_behind, put_between};
 use put::Pen;
 
 // Writes the text of node k.
@@ -28,15 +28,15 @@ fn put_node(pen: &mut Pen, f: &[u8], k: usize)
         put_atom(pen, op, x, y);
         return;
     }
-    pen.put_word(before(op));
+    put_before(pen, op);
     put_node(pen, f, usize::from(x));
     if op == 8 {
-        pen.put_word(behind(op));
+        put_behind(pen, op);
         return;
     }
-    pen.put_word(between(op));
+    put_between(pen, op);
     put_node(pen, f, usize::from(y));
-    pen.put_word(behind(op));
+    put_behind(pen, op);
 }
 
 // How many bytes the text of the whole formula has.

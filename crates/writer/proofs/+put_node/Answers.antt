@@ -49,17 +49,14 @@ returns-then-op-le4 t c =
     let z = c.requires in
     writes_as (text_atom z.1.0 a.f.now z.1.1.0 a.k _ _ z.0 refl refl (omega arith)) c.put_atom.ensures
 
-pub before-requires : goal.before-requires
-before-requires t c = let z = c.requires in operator_some z.1.0 c.args.f.now z.1.1.0 c.args.k 0 0 z.0
-
-pub put_word-requires : goal.put_word-requires
-put_word-requires t c =
+pub put_before-requires : goal.put_before-requires
+put_before-requires t c =
     let a = c.args in
     let p = a.pen.now in
     let z = c.requires in
+    let s = operator_some z.1.0 a.f.now z.1.1.0 a.k 0 0 z.0 in
     let x = operand_of a.f.now a.k 0 in
-    room_as p.at p.out.now c.before-2.ensures
-    (room_first p.at (before (op_of a.f.now a.k)) (text (tree a.f.now x)) p.out.now (room_to_a z.1.0 a.f.now z.1.1.0 a.k x _ z.0 refl refl (omega arith) p.at p.out.now z.2))
+    (s.0, s.1, room_first p.at (before (op_of a.f.now a.k)) (text (tree a.f.now x)) p.out.now (room_to_a z.1.0 a.f.now z.1.1.0 a.k x _ z.0 refl refl (omega arith) p.at p.out.now z.2))
 
 pub put_node-requires : goal.put_node-requires
 put_node-requires t c =
@@ -68,38 +65,35 @@ put_node-requires t c =
     let z = c.requires in
     let e = c.from.ensures in
     let i = lower z.1.0 a.f.now z.1.1.0 a.k _ _ z.0 e refl (omega arith) in
-    let u = writes_as c.before-2.ensures c.put_word.ensures in
-    (omega (arith, i.0, c.decreases), (omega (arith, i.0, z.0), z.1, space_behind u _ (room_to_a z.1.0 a.f.now z.1.1.0 a.k _ _ z.0 e refl (omega arith) p.at p.out.now z.2)))
+    (omega (arith, i.0, c.decreases), (omega (arith, i.0, z.0), z.1, space_behind c.put_before.ensures _ (room_to_a z.1.0 a.f.now z.1.1.0 a.k _ _ z.0 e refl (omega arith) p.at p.out.now z.2)))
 
-pub put_word-requires-then-op-eq8 : goal.put_word-requires-then-op-eq8
-put_word-requires-then-op-eq8 t c =
+pub put_behind-requires : goal.put_behind-requires
+put_behind-requires t c =
     let a = c.args in
     let p = a.pen.now in
-    let q = c.put_node.new.pen in
     let z = c.requires in
+    let s = operator_some z.1.0 a.f.now z.1.1.0 a.k 0 0 z.0 in
     let d = text_not z.1.0 a.f.now z.1.1.0 a.k _ _ z.0 c.from.ensures refl (omega arith) c.if-op-eq8.true in
-    let u = writes_writes (writes_as c.before-2.ensures c.put_word.ensures) c.put_node.ensures in
-    room_as q.at q.out.now c.behind.ensures (space_behind u (behind (op_of a.f.now a.k)) (room_as p.at p.out.now d z.2))
+    let u = writes_writes c.put_before.ensures c.put_node.ensures in
+    (s.0, s.1, space_behind u (behind (op_of a.f.now a.k)) (room_as p.at p.out.now d z.2))
 
 pub returns-then-op-eq8 : goal.returns-then-op-eq8
 returns-then-op-eq8 t c =
     let a = c.args in
     let z = c.requires in
     let d = text_not z.1.0 a.f.now z.1.1.0 a.k _ _ z.0 c.from.ensures refl (omega arith) c.if-op-eq8.true in
-    let u = writes_writes (writes_as c.before-2.ensures c.put_word.ensures) c.put_node.ensures in
-    writes_as d (writes_writes u (writes_as c.behind.ensures c.put_word-then-op-eq8.ensures))
+    writes_as d (writes_writes (writes_writes c.put_before.ensures c.put_node.ensures) c.put_behind.ensures)
 
-pub put_word-requires-2 : goal.put_word-requires-2
-put_word-requires-2 t c =
+pub put_between-requires : goal.put_between-requires
+put_between-requires t c =
     let a = c.args in
     let p = a.pen.now in
-    let q = c.put_node.new.pen in
     let z = c.requires in
+    let s = operator_some z.1.0 a.f.now z.1.1.0 a.k 0 0 z.0 in
     let y = operand_of a.f.now a.k 1 in
     let d = text_join z.1.0 a.f.now z.1.1.0 a.k _ y z.0 c.from.ensures refl (omega arith) c.if-op-eq8.false in
-    let u = writes_writes (writes_as c.before-2.ensures c.put_word.ensures) c.put_node.ensures in
-    room_as q.at q.out.now c.between.ensures
-    (space_behind u (between (op_of a.f.now a.k)) (room_to_between (op_of a.f.now a.k) p.at _ (text (tree a.f.now y)) p.out.now (room_as p.at p.out.now d z.2)))
+    let u = writes_writes c.put_before.ensures c.put_node.ensures in
+    (s.0, s.1, space_behind u (between (op_of a.f.now a.k)) (room_to_between (op_of a.f.now a.k) p.at _ (text (tree a.f.now y)) p.out.now (room_as p.at p.out.now d z.2)))
 
 pub put_node-requires-2 : goal.put_node-requires-2
 put_node-requires-2 t c =
@@ -110,23 +104,23 @@ put_node-requires-2 t c =
     let ey = c.from-2.ensures in
     let i = lower z.1.0 a.f.now z.1.1.0 a.k _ _ z.0 ex ey (omega arith) in
     let d = text_join z.1.0 a.f.now z.1.1.0 a.k _ _ z.0 ex ey (omega arith) c.if-op-eq8.false in
-    let u = writes_writes (writes_writes (writes_as c.before-2.ensures c.put_word.ensures) c.put_node.ensures) (writes_as c.between.ensures c.put_word-2.ensures) in
+    let u = writes_writes (writes_writes c.put_before.ensures c.put_node.ensures) c.put_between.ensures in
     (omega (arith, i.1, c.decreases), (omega (arith, i.1, z.0), z.1, space_behind u _ (room_to_second (op_of a.f.now a.k) p.at _ _ p.out.now (room_as p.at p.out.now d z.2))))
 
-pub put_word-requires-3 : goal.put_word-requires-3
-put_word-requires-3 t c =
+pub put_behind-requires-2 : goal.put_behind-requires-2
+put_behind-requires-2 t c =
     let a = c.args in
     let p = a.pen.now in
-    let q = c.put_node-2.new.pen in
     let z = c.requires in
+    let s = operator_some z.1.0 a.f.now z.1.1.0 a.k 0 0 z.0 in
     let d = text_join z.1.0 a.f.now z.1.1.0 a.k _ _ z.0 c.from.ensures c.from-2.ensures (omega arith) c.if-op-eq8.false in
-    let u = writes_writes (writes_writes (writes_as c.before-2.ensures c.put_word.ensures) c.put_node.ensures) (writes_as c.between.ensures c.put_word-2.ensures) in
-    room_as q.at q.out.now c.behind-2.ensures (space_behind (writes_writes u c.put_node-2.ensures) (behind (op_of a.f.now a.k)) (room_as p.at p.out.now d z.2))
+    let u = writes_writes (writes_writes c.put_before.ensures c.put_node.ensures) c.put_between.ensures in
+    (s.0, s.1, space_behind (writes_writes u c.put_node-2.ensures) (behind (op_of a.f.now a.k)) (room_as p.at p.out.now d z.2))
 
 pub returns : goal.returns
 returns t c =
     let a = c.args in
     let z = c.requires in
     let d = text_join z.1.0 a.f.now z.1.1.0 a.k _ _ z.0 c.from.ensures c.from-2.ensures (omega arith) c.if-op-eq8.false in
-    let u = writes_writes (writes_writes (writes_as c.before-2.ensures c.put_word.ensures) c.put_node.ensures) (writes_as c.between.ensures c.put_word-2.ensures) in
-    writes_as d (writes_writes (writes_writes u c.put_node-2.ensures) (writes_as c.behind-2.ensures c.put_word-3.ensures))
+    let u = writes_writes (writes_writes c.put_before.ensures c.put_node.ensures) c.put_between.ensures in
+    writes_as d (writes_writes (writes_writes u c.put_node-2.ensures) c.put_behind-2.ensures)

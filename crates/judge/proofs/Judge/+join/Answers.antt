@@ -57,16 +57,16 @@ split-begin-i-requires t c =
     (_, c.args.self.now.lists, taken_small _ _ _ c.requires.0.ready.few_locs c.requires.1 c.taken-a.ensures)
 
 pub split-serves-requires : goal.split-serves-requires
-split-serves-requires t c = let q = (walk_trying _ _ _ _ _ c.part_at-m.ensures c.loop-k.invariant) in (omega arith, (c.requires.0, c.requires.1, c.table-t.ensures, omega (arith, sub_le _ _ q.sub, c.taken-a.ensures.small), sub_within _ _ _ c.requires.0.ready.few_locs c.requires.1 c.taken-a.ensures _ q.sub))
+split-serves-requires t c = let q = (walk_trying _ _ _ _ _ c.part_at-m.ensures c.loop-m.invariant) in (omega arith, (c.requires.0, c.requires.1, c.table-t.ensures, omega (arith, sub_le _ _ q.sub, c.taken-a.ensures.small), sub_within _ _ _ c.requires.0.ready.few_locs c.requires.1 c.taken-a.ensures _ q.sub))
 
-pub split-loop-k-preserved : goal.split-loop-k-preserved
-split-loop-k-preserved t c = walk_next _ _ _ c.requires.0.ready.few_locs c.requires.1 c.taken-a.ensures _ (λ i e. sep_out _ _ _ _ _ _ _ _ e) _ _ _ c.part_at-m.ensures c.loop-k.invariant c.if-m-a.false (sym c.serves.ensures ∙ c.if-serves.false)
+pub split-loop-m-preserved : goal.split-loop-m-preserved
+split-loop-m-preserved t c = walk_next _ _ _ c.requires.0.ready.few_locs c.requires.1 c.taken-a.ensures _ (λ i e. sep_out _ _ _ _ _ _ _ _ e) _ _ _ c.part_at-m.ensures c.loop-m.invariant c.if-m-a.false (sym c.serves.ensures ∙ c.if-serves.false)
 
 pub split-returns-then-serves : goal.split-returns-then-serves
-split-returns-then-serves t c = trying_found _ _ _ c.requires.0.ready.few_locs c.requires.1 c.taken-a.ensures _ (λ i e. sep_out _ _ _ _ _ _ _ _ e) _ (walk_trying _ _ _ _ _ c.part_at-m.ensures c.loop-k.invariant) (sym c.serves.ensures ∙ c.if-serves.true)
+split-returns-then-serves t c = trying_found _ _ _ c.requires.0.ready.few_locs c.requires.1 c.taken-a.ensures _ (λ i e. sep_out _ _ _ _ _ _ _ _ e) _ (walk_trying _ _ _ _ _ c.part_at-m.ensures c.loop-m.invariant) (sym c.serves.ensures ∙ c.if-serves.true)
 
 pub split-returns-then-m-a : goal.split-returns-then-m-a
-split-returns-then-m-a t c = trying_none _ _ _ c.requires.0.ready.few_locs c.requires.1 c.taken-a.ensures _ (λ i e. sep_out _ _ _ _ _ _ _ _ e) _ (walk_trying _ _ _ _ _ c.part_at-m.ensures c.loop-k.invariant) c.if-m-a.true (sym c.serves.ensures ∙ c.if-serves.false)
+split-returns-then-m-a t c = trying_none _ _ _ c.requires.0.ready.few_locs c.requires.1 c.taken-a.ensures _ (λ i e. sep_out _ _ _ _ _ _ _ _ e) _ (walk_trying _ _ _ _ _ c.part_at-m.ensures c.loop-m.invariant) c.if-m-a.true (sym c.serves.ensures ∙ c.if-serves.false)
 
 pub serves-both-requires : goal.serves-both-requires
 serves-both-requires t c = (omega arith, (c.requires.0, part_is_heap _ _ _ _ c.requires.0.ready.barred _ _ _ _ c.requires.1 c.requires.2 c.spread-e.ensures, rest_is_heap _ _ _ _ c.requires.0.ready.barred _ _ _ _ c.requires.1 c.requires.2 c.spread-e.ensures))

@@ -35,8 +35,8 @@ abbrev pub invariant-fill-loop-d : goal.invariant-fill-loop-d
 invariant-fill-loop-d l =
     Tried l.self.setting.profile l.self.setting.vars l.self.setting.locs (stack_of l.self.setting) (first_at l.f l.self.setting l.k) (second_at l.f l.self.setting l.k) (cells l.w) l.l (cells l.g) l.d
 
-abbrev pub invariant-split-loop-k : goal.invariant-split-loop-k
-invariant-split-loop-k l = Walking l.self.pairs.now (serves_at l.f l.self.setting l.k l.w) l.a l.i
+abbrev pub invariant-split-loop-m : goal.invariant-split-loop-m
+invariant-split-loop-m l = Walking l.self.pairs.now (serves_at l.f l.self.setting l.k l.w) l.a l.i
 
-abbrev pub decreases-split-loop-k : goal.decreases-split-loop-k
-decreases-split-loop-k l = length l.self.pairs.now - l.i
+abbrev pub decreases-split-loop-m : goal.decreases-split-loop-m
+decreases-split-loop-m l = length l.self.pairs.now - l.i

@@ -1,0 +1,19 @@
+-- `ownwords::put_behind` meets its contract. Assumes nothing.
+use mathlib.Core.Path.{sym, ◌∙◌}
+use native.Mathlib.Omega.{arith}
+use Rattle.put.specs.PutsLaws.{room_as}
+use Rattle.put.specs.PensLaws.{writes_as}
+use Rattle.ownwords.specs.OwnWords.{behind}
+use Rattle.ownwords.specs.OwnWordLaws.{behind_bracket}
+use Rattle.ownwords.proofs.put_behind.Goals as goal
+
+pub put_word-requires-in_default : goal.put_word-requires-in_default
+unfolding behind
+put_word-requires-in_default c =
+    let p = c.args.pen.now in
+    room_as p.at p.out.now (c.behind-in_default.ensures ∙ sym (behind_bracket _ c.requires.0 c.requires.1 (omega arith) (λ e. omega arith) (λ e. omega arith))) c.requires.2
+
+pub returns-in_default : goal.returns-in_default
+unfolding behind
+returns-in_default c =
+    writes_as (c.behind-in_default.ensures ∙ sym (behind_bracket _ c.requires.0 c.requires.1 (omega arith) (λ e. omega arith) (λ e. omega arith))) c.put_word-in_default.ensures
