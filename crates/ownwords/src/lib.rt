@@ -54,7 +54,7 @@ pub fn behind(op: u8) -> &'static [u8]
 }
 
 // Each word is copied by a call of its own, so that the compiler knows how long it is: with one call for all of an operator's words a
-// text takes a third to two thirds longer.
+// text takes half as long again, or more.
 pub fn put_before(pen: &mut Pen, op: u8)
     requires { (1 ≤ op) × (op ≤ 10) × Space pen.old (before op) }
     ensures { Writes pen.old (before op) pen.new }

@@ -105,8 +105,8 @@ struct Digits {
 }
 
 impl Digits {
-    // What is left above the k lowest digits, of which there are three at the most. Each case stands by itself, as a loop would take
-    // three times as long.
+    // What is left above the k lowest digits, of which there are three at the most. Case by case and not in a loop, since the program
+    // `examples` spends much of its time here.
     fn above(self, k: u8) -> u8 {
         match k {
             0 => self.number,
@@ -168,7 +168,7 @@ impl Heap {
         self.digits.digit(l).checked_sub(1)
     }
 
-    // The allocated locations.
+    // The allocated locations. The ranges here and in `locations` are half open, since those the compiler unrolls.
     fn allocated(self) -> u8 {
         let mut all = 0;
         for l in 1..LOCATIONS + 1 {
